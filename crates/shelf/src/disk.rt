@@ -1,0 +1,96 @@
+// The storage of a run, as its callers see it.
+ghost use Rattle.std.specs.Prelude.{◌≡◌, ◌+◌, ◌≤◌, ℕ, List, length, IfOk, OnOk, OnErr, IsErr, IsErrOf, IsSome, None};
+ghost use Rattle.shelf.specs.Causes.{HasCause};
+ghost use Rattle.shelf.specs.Disk.{Contents, Slots, name_at, most_at, IsFree, SameSlots, Holds, Follows, SameContents, SameOthers, Tells, Written, Torn, Shortened, Trimmed, bytes_from};
+
+use crate::Failed;
+use std::alloc::Global;
+
+/// Why a file can't be held.
+#[derive(Clone, Copy, Debug, PartialEq, Eq)]
+pub enum HoldFail {
+    /// The storage failed; its count of faults rose.
+    Failed,
+    /// There is no memory for the file.
+    NoMemory,
+}
+
+/// The storage: files by name, of which some are held open, each under a slot number.
+/// A file that isn't there and one of length 0 are the same.
+/// A shelf may tell what a read of each name gives; over one that doesn't tell, the clauses on contents say nothing.
+pub trait Shelf: Drop {
+    /// A read of this name gives these bytes.
+    ghost holds: { Self → Contents };
+
+    /// The files that are held.
+    ghost slots: { Self → Slots };
+
+    /// How often the storage has failed.
+    ghost faults: { Self → ℕ };
+
+    /// Makes the name ready, and takes all memory that its file needs up to `most` bytes.
+    fn hold(&mut self, alloc: Global, name: &[u8], most: u64) -> Result<u32, HoldFail>
+        requires { IsFree (slots self.old) name.now }
+        ensures held { IfOk result (λ slot. Holds (slots self.old) (slots self.new) slot name.now most) }
+        ensures refused { OnErr result (SameSlots (slots self.old) (slots self.new)) }
+        ensures contents { SameContents (holds self.old) (holds self.new) }
+        ensures tells { Tells (holds self.old) (holds self.new) }
+        ensures cause { HasCause (faults self.old) (faults self.new) (IsErrOf result HoldFail.Failed) };
+
+    /// Gives up all slots.
+    fn let_go(&mut self)
+        ensures free { (k : ℕ) → slots self.new k ≡ None }
+        ensures contents { SameContents (holds self.old) (holds self.new) }
+        ensures tells { Tells (holds self.old) (holds self.new) }
+        ensures later { faults self.old ≤ faults self.new };
+
+    /// How many bytes the file has.
+    fn length(&mut self, slot: u32) -> Result<u64, Failed>
+        requires { IsSome (slots self.old slot) }
+        ensures value { IfOk result (λ size. (c : List ℕ) → holds self.old (name_at (slots self.old slot)) c → size ≡ length c) }
+        ensures contents { SameContents (holds self.old) (holds self.new) }
+        ensures tells { Tells (holds self.old) (holds self.new) }
+        ensures slots { SameSlots (slots self.old) (slots self.new) }
+        ensures cause { HasCause (faults self.old) (faults self.new) (IsErr result) };
+
+    /// Fills `out` with the file's bytes from `at` on.
+    fn read(&mut self, slot: u32, at: u64, out: &mut [u8]) -> Result<(), Failed>
+        requires held { IsSome (slots self.old slot) }
+        requires within { (c : List ℕ) → holds self.old (name_at (slots self.old slot)) c → at + length out.old ≤ length c }
+        ensures value { OnOk result ((c : List ℕ) → holds self.old (name_at (slots self.old slot)) c → out.new ≡ bytes_from at (length out.old) c) }
+        ensures contents { SameContents (holds self.old) (holds self.new) }
+        ensures tells { Tells (holds self.old) (holds self.new) }
+        ensures slots { SameSlots (slots self.old) (slots self.new) }
+        ensures cause { HasCause (faults self.old) (faults self.new) (IsErr result) };
+
+    /// Writes over what is there, and past the end.
+    fn write_at(&mut self, slot: u32, at: u64, bytes: &[u8]) -> Result<(), Failed>
+        requires held { IsSome (slots self.old slot) }
+        requires begins { (c : List ℕ) → holds self.old (name_at (slots self.old slot)) c → at ≤ length c }
+        requires fits { at + length bytes.now ≤ most_at (slots self.old slot) }
+        ensures written { OnOk result (Follows (Written at bytes.now) (holds self.old (name_at (slots self.old slot))) (holds self.new (name_at (slots self.old slot)))) }
+        ensures torn { Follows (Torn at (length bytes.now)) (holds self.old (name_at (slots self.old slot))) (holds self.new (name_at (slots self.old slot))) }
+        ensures others { SameOthers (name_at (slots self.old slot)) (holds self.old) (holds self.new) }
+        ensures tells { Tells (holds self.old) (holds self.new) }
+        ensures slots { SameSlots (slots self.old) (slots self.new) }
+        ensures cause { HasCause (faults self.old) (faults self.new) (IsErr result) };
+
+    /// Cuts the file to a length that it has or passes.
+    fn cut(&mut self, slot: u32, size: u64) -> Result<(), Failed>
+        requires held { IsSome (slots self.old slot) }
+        requires shortens { (c : List ℕ) → holds self.old (name_at (slots self.old slot)) c → size ≤ length c }
+        ensures shortened { OnOk result (Follows (Shortened size) (holds self.old (name_at (slots self.old slot))) (holds self.new (name_at (slots self.old slot)))) }
+        ensures trimmed { Follows (Trimmed size) (holds self.old (name_at (slots self.old slot))) (holds self.new (name_at (slots self.old slot))) }
+        ensures others { SameOthers (name_at (slots self.old slot)) (holds self.old) (holds self.new) }
+        ensures tells { Tells (holds self.old) (holds self.new) }
+        ensures slots { SameSlots (slots self.old) (slots self.new) }
+        ensures cause { HasCause (faults self.old) (faults self.new) (IsErr result) };
+
+    /// Makes sure that what a read gives outlives a crash.
+    fn sync(&mut self, slot: u32) -> Result<(), Failed>
+        requires { IsSome (slots self.old slot) }
+        ensures contents { SameContents (holds self.old) (holds self.new) }
+        ensures tells { Tells (holds self.old) (holds self.new) }
+        ensures slots { SameSlots (slots self.old) (slots self.new) }
+        ensures cause { HasCause (faults self.old) (faults self.new) (IsErr result) };
+}
