@@ -1,5 +1,5 @@
 // Numbers with 16 fraction bits.
-ghost use Rattle.std.specs.Prelude.{◌≡◌, ◌↔◌, pos, ◌≤ℤ◌, IfOk, IsErrOf};
+ghost use Rattle.std.specs.Prelude.{◌≡◌, ◌↔◌, neg_ℤ, pos, ◌≤ℤ◌, IfOk, IsErrOf};
 ghost use Rattle.fix_math.specs.Numbers.{product_of, sample_of, IsInRange};
 
 use std::marker::Model;
@@ -52,6 +52,14 @@ impl Fix {
         } else {
             Err(NumFault::Range)
         }
+    }
+
+    /// The value with the other sign.
+    #[inline]
+    pub fn negated(self) -> Fix
+        ensures { result ≡ neg_ℤ self }
+    {
+        Fix(-self.0)
     }
 
     /// The raw number, in units of 1/65536.

@@ -1,0 +1,9 @@
+pub mod Lists
+pub mod OptionsLemmas
+pub mod Numbers
+pub mod Tokens
+pub mod Parts
+pub mod Steps
+pub mod Scenes
+pub mod Faults
+pub mod Stops

@@ -1,0 +1,3 @@
+pub mod Options
+pub mod Grammar
+pub mod Reading
