@@ -17,7 +17,8 @@ pub enum HoldFail {
 
 /// The storage: files by name, of which some are held open, each under a slot number.
 /// A file that isn't there and one of length 0 are the same.
-/// A shelf may tell what a read of each name gives; over one that doesn't tell, the clauses on contents say nothing.
+/// A shelf may tell what a read of each name gives; over one that doesn't tell, the clauses on
+/// contents say nothing.
 pub trait Shelf: Drop {
     /// A read of this name gives these bytes.
     ghost holds: { Self → Contents };
@@ -47,7 +48,8 @@ pub trait Shelf: Drop {
     /// How many bytes the file has.
     fn length(&mut self, slot: u32) -> Result<u64, Failed>
         requires { IsSome (slots self.old slot) }
-        ensures value { IfOk result (λ size. (c : List ℕ) → holds self.old (name_at (slots self.old slot)) c → size ≡ length c) }
+        ensures value { IfOk result (λ size. (c : List ℕ) →
+            holds self.old (name_at (slots self.old slot)) c → size ≡ length c) }
         ensures contents { SameContents (holds self.old) (holds self.new) }
         ensures tells { Tells (holds self.old) (holds self.new) }
         ensures slots { SameSlots (slots self.old) (slots self.new) }
@@ -56,8 +58,10 @@ pub trait Shelf: Drop {
     /// Fills `out` with the file's bytes from `at` on.
     fn read(&mut self, slot: u32, at: u64, out: &mut [u8]) -> Result<(), Failed>
         requires held { IsSome (slots self.old slot) }
-        requires within { (c : List ℕ) → holds self.old (name_at (slots self.old slot)) c → at + length out.old ≤ length c }
-        ensures value { OnOk result ((c : List ℕ) → holds self.old (name_at (slots self.old slot)) c → out.new ≡ bytes_from at (length out.old) c) }
+        requires within { (c : List ℕ) → holds self.old (name_at (slots self.old slot)) c →
+            at + length out.old ≤ length c }
+        ensures value { OnOk result ((c : List ℕ) → holds self.old (name_at (slots self.old slot)) c →
+            out.new ≡ bytes_from at (length out.old) c) }
         ensures contents { SameContents (holds self.old) (holds self.new) }
         ensures tells { Tells (holds self.old) (holds self.new) }
         ensures slots { SameSlots (slots self.old) (slots self.new) }
@@ -68,8 +72,12 @@ pub trait Shelf: Drop {
         requires held { IsSome (slots self.old slot) }
         requires begins { (c : List ℕ) → holds self.old (name_at (slots self.old slot)) c → at ≤ length c }
         requires fits { at + length bytes.now ≤ most_at (slots self.old slot) }
-        ensures written { OnOk result (Follows (Written at bytes.now) (holds self.old (name_at (slots self.old slot))) (holds self.new (name_at (slots self.old slot)))) }
-        ensures torn { Follows (Torn at (length bytes.now)) (holds self.old (name_at (slots self.old slot))) (holds self.new (name_at (slots self.old slot))) }
+        ensures written { OnOk result (Follows (Written at bytes.now)
+            (holds self.old (name_at (slots self.old slot)))
+            (holds self.new (name_at (slots self.old slot)))) }
+        ensures torn { Follows (Torn at (length bytes.now))
+            (holds self.old (name_at (slots self.old slot)))
+            (holds self.new (name_at (slots self.old slot))) }
         ensures others { SameOthers (name_at (slots self.old slot)) (holds self.old) (holds self.new) }
         ensures tells { Tells (holds self.old) (holds self.new) }
         ensures slots { SameSlots (slots self.old) (slots self.new) }
@@ -79,8 +87,12 @@ pub trait Shelf: Drop {
     fn cut(&mut self, slot: u32, size: u64) -> Result<(), Failed>
         requires held { IsSome (slots self.old slot) }
         requires shortens { (c : List ℕ) → holds self.old (name_at (slots self.old slot)) c → size ≤ length c }
-        ensures shortened { OnOk result (Follows (Shortened size) (holds self.old (name_at (slots self.old slot))) (holds self.new (name_at (slots self.old slot)))) }
-        ensures trimmed { Follows (Trimmed size) (holds self.old (name_at (slots self.old slot))) (holds self.new (name_at (slots self.old slot))) }
+        ensures shortened { OnOk result (Follows (Shortened size)
+            (holds self.old (name_at (slots self.old slot)))
+            (holds self.new (name_at (slots self.old slot)))) }
+        ensures trimmed { Follows (Trimmed size)
+            (holds self.old (name_at (slots self.old slot)))
+            (holds self.new (name_at (slots self.old slot))) }
         ensures others { SameOthers (name_at (slots self.old slot)) (holds self.old) (holds self.new) }
         ensures tells { Tells (holds self.old) (holds self.new) }
         ensures slots { SameSlots (slots self.old) (slots self.new) }
