@@ -4,12 +4,15 @@
 mod count;
 mod disk;
 mod folder_shelf;
+mod mem_file;
+mod mem_shelf;
 mod mem_sink;
 mod sink;
 mod std_sink;
 
 pub use disk::{HoldFail, Shelf};
 pub use folder_shelf::FolderShelf;
+pub use mem_shelf::MemShelf;
 pub use mem_sink::MemSink;
 pub use sink::{Failed, NoSink, Sink};
 pub use std_sink::StdSink;
