@@ -32,11 +32,13 @@ pub trait Shelf: Drop {
     /// Makes the name ready, and takes all memory that its file needs up to `most` bytes.
     fn hold(&mut self, alloc: Global, name: &[u8], most: u64) -> Result<u32, HoldFail>
         requires { IsFree (slots self.old) name.now }
-        ensures held { IfOk result (λ slot. Holds (slots self.old) (slots self.new) slot name.now most) }
+        ensures held { IfOk result (λ slot.
+            Holds (slots self.old) (slots self.new) slot name.now most) }
         ensures refused { OnErr result (SameSlots (slots self.old) (slots self.new)) }
         ensures contents { SameContents (holds self.old) (holds self.new) }
         ensures tells { Tells (holds self.old) (holds self.new) }
-        ensures cause { HasCause (faults self.old) (faults self.new) (IsErrOf result HoldFail.Failed) };
+        ensures cause { HasCause (faults self.old) (faults self.new)
+            (IsErrOf result HoldFail.Failed) };
 
     /// Gives up all slots.
     fn let_go(&mut self)
@@ -60,7 +62,8 @@ pub trait Shelf: Drop {
         requires held { IsSome (slots self.old slot) }
         requires within { (c : List ℕ) → holds self.old (name_at (slots self.old slot)) c →
             at + length out.old ≤ length c }
-        ensures value { OnOk result ((c : List ℕ) → holds self.old (name_at (slots self.old slot)) c →
+        ensures value { OnOk result ((c : List ℕ) →
+            holds self.old (name_at (slots self.old slot)) c →
             out.new ≡ bytes_from at (length out.old) c) }
         ensures contents { SameContents (holds self.old) (holds self.new) }
         ensures tells { Tells (holds self.old) (holds self.new) }
@@ -70,7 +73,8 @@ pub trait Shelf: Drop {
     /// Writes over what is there, and past the end.
     fn write_at(&mut self, slot: u32, at: u64, bytes: &[u8]) -> Result<(), Failed>
         requires held { IsSome (slots self.old slot) }
-        requires begins { (c : List ℕ) → holds self.old (name_at (slots self.old slot)) c → at ≤ length c }
+        requires begins { (c : List ℕ) → holds self.old (name_at (slots self.old slot)) c →
+            at ≤ length c }
         requires fits { at + length bytes.now ≤ most_at (slots self.old slot) }
         ensures written { OnOk result (Follows (Written at bytes.now)
             (holds self.old (name_at (slots self.old slot)))
@@ -78,7 +82,8 @@ pub trait Shelf: Drop {
         ensures torn { Follows (Torn at (length bytes.now))
             (holds self.old (name_at (slots self.old slot)))
             (holds self.new (name_at (slots self.old slot))) }
-        ensures others { SameOthers (name_at (slots self.old slot)) (holds self.old) (holds self.new) }
+        ensures others { SameOthers (name_at (slots self.old slot))
+            (holds self.old) (holds self.new) }
         ensures tells { Tells (holds self.old) (holds self.new) }
         ensures slots { SameSlots (slots self.old) (slots self.new) }
         ensures cause { HasCause (faults self.old) (faults self.new) (IsErr result) };
@@ -86,14 +91,16 @@ pub trait Shelf: Drop {
     /// Cuts the file to a length that it has or passes.
     fn cut(&mut self, slot: u32, size: u64) -> Result<(), Failed>
         requires held { IsSome (slots self.old slot) }
-        requires shortens { (c : List ℕ) → holds self.old (name_at (slots self.old slot)) c → size ≤ length c }
+        requires shortens { (c : List ℕ) → holds self.old (name_at (slots self.old slot)) c →
+            size ≤ length c }
         ensures shortened { OnOk result (Follows (Shortened size)
             (holds self.old (name_at (slots self.old slot)))
             (holds self.new (name_at (slots self.old slot)))) }
         ensures trimmed { Follows (Trimmed size)
             (holds self.old (name_at (slots self.old slot)))
             (holds self.new (name_at (slots self.old slot))) }
-        ensures others { SameOthers (name_at (slots self.old slot)) (holds self.old) (holds self.new) }
+        ensures others { SameOthers (name_at (slots self.old slot))
+            (holds self.old) (holds self.new) }
         ensures tells { Tells (holds self.old) (holds self.new) }
         ensures slots { SameSlots (slots self.old) (slots self.new) }
         ensures cause { HasCause (faults self.old) (faults self.new) (IsErr result) };

@@ -1,4 +1,5 @@
-// The storage over the files of the current folder. The methods call free functions over the fields.
+// The storage over the files of the current folder. Its methods call free functions over its
+// fields.
 ghost use Rattle.std.specs.Prelude.{◌≡◌, [], IsErr, option_map, slice_get};
 ghost use Rattle.shelf.specs.Causes.{HasCause};
 
@@ -40,7 +41,8 @@ impl<R: Files + Send + Drop> FolderShelf<R> {
 impl<R: Files + Send + Drop> Shelf for FolderShelf<R> {
     ghost holds = { λ _ _ _. ⊥ };
 
-    ghost slots = { λ shelf k. option_map (λ file. record { name = file.name.items; most = file.most })
+    ghost slots = { λ shelf k.
+        option_map (λ file. record { name = file.name.items; most = file.most })
         (slice_get shelf.opened.items k) };
 
     ghost faults = { λ shelf. shelf.failures };

@@ -1,4 +1,5 @@
-//! Files and streams as traits, in memory for tests, and over the real folder and the real standard error.
+//! Files and streams as traits, in memory for tests, and over the real folder and the real
+//! standard error.
 #![tactic(auto)]
 
 mod count;
@@ -9,6 +10,8 @@ mod mem_shelf;
 mod mem_sink;
 mod sink;
 mod std_sink;
+#[cfg(test)]
+mod tests;
 
 pub use disk::{HoldFail, Shelf};
 pub use folder_shelf::FolderShelf;

@@ -21,15 +21,22 @@ impl Model for MemFile {
 
     ghost Value = { Stored };
 
-    ghost view = { λ file. record { name = file.name.items; text = take file.len file.buffer.items; is_held = file.is_held; most = file.most } };
+    ghost view = { λ file. record {
+      name = file.name.items;
+      text = take file.len file.buffer.items;
+      is_held = file.is_held;
+      most = file.most;
+    } };
 
-    ghost invariant = { λ file. (file.len ≤ vec_len file.buffer) × (file.most ≤ vec_len file.buffer) };
+    ghost invariant = { λ file.
+        (file.len ≤ vec_len file.buffer) × (file.most ≤ vec_len file.buffer) };
 }
 
 impl MemFile {
     /// An empty file that is held.
     pub(crate) fn new(alloc: Global, name: &[u8], most: u64) -> Result<MemFile, AllocError>
-        ensures { IfOk result (λ file. file ≡ record { name = name.now; text = []; is_held = true; most = most }) }
+        ensures { IfOk result (λ file.
+            file ≡ record { name = name.now; text = []; is_held = true; most = most }) }
     {
         Ok(MemFile {
             name: Vec::from_slice(alloc, name)?,
@@ -95,8 +102,10 @@ impl MemFile {
 fn overwrite(buffer: &mut [u8], at: usize, bytes: &[u8])
     requires { at + length bytes.now ≤ length buffer.old }
     ensures below { (k : ℕ) → k < at → slice_index buffer.new k ≡ slice_index buffer.old k }
-    ensures within { (k : ℕ) → k < length bytes.now → slice_index buffer.new (at + k) ≡ slice_index bytes.now k }
-    ensures above { (k : ℕ) → at + length bytes.now ≤ k → slice_index buffer.new k ≡ slice_index buffer.old k }
+    ensures within { (k : ℕ) → k < length bytes.now →
+        slice_index buffer.new (at + k) ≡ slice_index bytes.now k }
+    ensures above { (k : ℕ) → at + length bytes.now ≤ k →
+        slice_index buffer.new k ≡ slice_index buffer.old k }
 {
     buffer[at..at + bytes.len()].copy_from_slice(bytes);
 }

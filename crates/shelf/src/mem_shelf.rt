@@ -69,11 +69,13 @@ impl Shelf for MemShelf {
 
     fn hold(&mut self, alloc: Global, name: &[u8], most: u64) -> Result<u32, HoldFail>
         requires { IsFree (slots_of self.old) name.now }
-        ensures held { IfOk result (λ slot. Holds (slots_of self.old) (slots_of self.new) slot name.now most) }
+        ensures held { IfOk result (λ slot.
+            Holds (slots_of self.old) (slots_of self.new) slot name.now most) }
         ensures refused { OnErr result (SameSlots (slots_of self.old) (slots_of self.new)) }
         ensures contents { SameContents (held_by self.old) (held_by self.new) }
         ensures tells { Tells (held_by self.old) (held_by self.new) }
-        ensures cause { HasCause (failures_of self.old) (failures_of self.new) (IsErrOf result HoldFail.Failed) }
+        ensures cause { HasCause (failures_of self.old) (failures_of self.new)
+            (IsErrOf result HoldFail.Failed) }
         ensures turn { TakesTurn self.old self.new (IsErrOf result HoldFail.Failed) }
     {
         if is_due(&mut self.countdown, &mut self.failures) {
@@ -116,7 +118,8 @@ impl Shelf for MemShelf {
         requires held { IsSome (slots_of self.old slot) }
         requires within { (c : List ℕ) → held_by self.old (name_at (slots_of self.old slot)) c →
             at + length out.old ≤ length c }
-        ensures value { OnOk result ((c : List ℕ) → held_by self.old (name_at (slots_of self.old slot)) c →
+        ensures value { OnOk result ((c : List ℕ) →
+            held_by self.old (name_at (slots_of self.old slot)) c →
             out.new ≡ bytes_from at (length out.old) c) }
         ensures contents { SameContents (held_by self.old) (held_by self.new) }
         ensures tells { Tells (held_by self.old) (held_by self.new) }
@@ -136,7 +139,8 @@ impl Shelf for MemShelf {
 
     fn write_at(&mut self, slot: u32, at: u64, bytes: &[u8]) -> Result<(), Failed>
         requires held { IsSome (slots_of self.old slot) }
-        requires begins { (c : List ℕ) → held_by self.old (name_at (slots_of self.old slot)) c → at ≤ length c }
+        requires begins { (c : List ℕ) → held_by self.old (name_at (slots_of self.old slot)) c →
+            at ≤ length c }
         requires fits { at + length bytes.now ≤ most_at (slots_of self.old slot) }
         ensures written { OnOk result (Follows (Written at bytes.now)
             (held_by self.old (name_at (slots_of self.old slot)))
@@ -144,7 +148,8 @@ impl Shelf for MemShelf {
         ensures torn { Follows (Torn at (length bytes.now))
             (held_by self.old (name_at (slots_of self.old slot)))
             (held_by self.new (name_at (slots_of self.old slot))) }
-        ensures others { SameOthers (name_at (slots_of self.old slot)) (held_by self.old) (held_by self.new) }
+        ensures others { SameOthers (name_at (slots_of self.old slot))
+            (held_by self.old) (held_by self.new) }
         ensures tells { Tells (held_by self.old) (held_by self.new) }
         ensures slots { SameSlots (slots_of self.old) (slots_of self.new) }
         ensures cause { HasCause (failures_of self.old) (failures_of self.new) (IsErr result) }
@@ -160,14 +165,16 @@ impl Shelf for MemShelf {
 
     fn cut(&mut self, slot: u32, size: u64) -> Result<(), Failed>
         requires held { IsSome (slots_of self.old slot) }
-        requires shortens { (c : List ℕ) → held_by self.old (name_at (slots_of self.old slot)) c → size ≤ length c }
+        requires shortens { (c : List ℕ) → held_by self.old (name_at (slots_of self.old slot)) c →
+            size ≤ length c }
         ensures shortened { OnOk result (Follows (Shortened size)
             (held_by self.old (name_at (slots_of self.old slot)))
             (held_by self.new (name_at (slots_of self.old slot)))) }
         ensures trimmed { Follows (Trimmed size)
             (held_by self.old (name_at (slots_of self.old slot)))
             (held_by self.new (name_at (slots_of self.old slot))) }
-        ensures others { SameOthers (name_at (slots_of self.old slot)) (held_by self.old) (held_by self.new) }
+        ensures others { SameOthers (name_at (slots_of self.old slot))
+            (held_by self.old) (held_by self.new) }
         ensures tells { Tells (held_by self.old) (held_by self.new) }
         ensures slots { SameSlots (slots_of self.old) (slots_of self.new) }
         ensures cause { HasCause (failures_of self.old) (failures_of self.new) (IsErr result) }
@@ -232,7 +239,8 @@ fn text_at(files: &[MemFile], slot: u32) -> &[u8]
     requires one_each { OneEach files.now }
     requires held { IsSome (slots_in files.now slot) }
     ensures held { texts_in files.now (name_at (slots_in files.now slot)) result.now }
-    ensures alone { (c : List ℕ) → texts_in files.now (name_at (slots_in files.now slot)) c → c ≡ result.now }
+    ensures alone { (c : List ℕ) → texts_in files.now (name_at (slots_in files.now slot)) c →
+        c ≡ result.now }
 {
     files[slot as usize].text()
 }
@@ -243,7 +251,8 @@ fn hold_in(files: &mut Vec<MemFile>, alloc: Global, name: &[u8], most: u64) -> O
     requires free { IsFree (slots_in files.old.items) name.now }
     ensures held { IfSome result (λ slot.
         Holds (slots_in files.old.items) (slots_in files.new.items) slot name.now most) }
-    ensures refused { IfNone result (SameSlots (slots_in files.old.items) (slots_in files.new.items)) }
+    ensures refused { IfNone result
+        (SameSlots (slots_in files.old.items) (slots_in files.new.items)) }
     ensures contents { SameContents (texts_in files.old.items) (texts_in files.new.items) }
     ensures tells { Tells (texts_in files.old.items) (texts_in files.new.items) }
     ensures one_each { OneEach files.new.items }

@@ -50,10 +50,13 @@ impl Sink for MemSink {
 
     /// Fails exactly where the bytes don't fit the room, and then takes none of them.
     fn write(&mut self, bytes: &[u8]) -> Result<(), Failed>
-        ensures all { OnOk result (Some (taken_by self.new) ≡ with_bytes (Some (taken_by self.old)) bytes.now) }
-        ensures part { OnErr result (GrewByLess (Some (taken_by self.old)) (Some (taken_by self.new)) bytes.now) }
+        ensures all { OnOk result
+            (Some (taken_by self.new) ≡ with_bytes (Some (taken_by self.old)) bytes.now) }
+        ensures part { OnErr result
+            (GrewByLess (Some (taken_by self.old)) (Some (taken_by self.new)) bytes.now) }
         ensures cause { HasCause self.old.failures self.new.failures (IsErr result) }
-        ensures fits { IsOk result ↔ (length (taken_by self.old) + length bytes.now ≤ room_of self.old) }
+        ensures fits { IsOk result ↔
+            (length (taken_by self.old) + length bytes.now ≤ room_of self.old) }
         ensures untouched { OnErr result (taken_by self.new ≡ taken_by self.old) }
         ensures room { room_of self.new ≡ room_of self.old }
         ensures counted { self.new.failures ≡ (if is_ok result then self.old.failures

@@ -37,7 +37,8 @@ impl<W: Write + Drop> Sink for StdSink<W> {
         ensures all { OnOk result (None ≡ with_bytes None bytes.now) }
         ensures part { OnErr result (GrewByLess None None bytes.now) }
         ensures cause { HasCause self.old.failures self.new.failures (IsErr result) }
-        ensures through { OnOk result (Appends (W.contents self.old.stream) (W.contents self.new.stream) bytes.now) }
+        ensures through { OnOk result
+            (Appends (W.contents self.old.stream) (W.contents self.new.stream) bytes.now) }
         ensures counted { self.new.failures ≡ (if is_ok result then self.old.failures
             else min (self.old.failures + 1) (2 ^ 64 - 1)) }
     {
@@ -51,7 +52,8 @@ impl<W: Write + Drop> Sink for StdSink<W> {
 
 /// Writes piece by piece. A write that takes nothing of a piece fails.
 fn write_whole<W: Write + Drop>(stream: &mut W, bytes: &[u8]) -> Result<(), Failed>
-    ensures whole { OnOk result (Appends (W.contents stream.old) (W.contents stream.new) bytes.now) }
+    ensures whole { OnOk result
+        (Appends (W.contents stream.old) (W.contents stream.new) bytes.now) }
     ensures some { OnErr result (0 < length bytes.now) }
 {
     let mut rest = bytes;
