@@ -17,7 +17,8 @@ pub enum HoldFail {
 
 /// The storage: files by name, of which some are held open, each under a slot number.
 /// A file that isn't there and one of length 0 are the same.
-/// A shelf may tell what a read of each name gives; over one that doesn't tell, the clauses on contents say nothing.
+/// A shelf may tell what a read of each name gives; over one that doesn't tell, the clauses on
+/// contents say nothing.
 pub trait Shelf: Drop {
     /// A read of this name gives these bytes.
     ghost holds: { Self → Contents };
@@ -31,11 +32,13 @@ pub trait Shelf: Drop {
     /// Makes the name ready, and takes all memory that its file needs up to `most` bytes.
     fn hold(&mut self, alloc: Global, name: &[u8], most: u64) -> Result<u32, HoldFail>
         requires { IsFree (slots self.old) name.now }
-        ensures held { IfOk result (λ slot. Holds (slots self.old) (slots self.new) slot name.now most) }
+        ensures held { IfOk result (λ slot.
+            Holds (slots self.old) (slots self.new) slot name.now most) }
         ensures refused { OnErr result (SameSlots (slots self.old) (slots self.new)) }
         ensures contents { SameContents (holds self.old) (holds self.new) }
         ensures tells { Tells (holds self.old) (holds self.new) }
-        ensures cause { HasCause (faults self.old) (faults self.new) (IsErrOf result HoldFail.Failed) };
+        ensures cause { HasCause (faults self.old) (faults self.new)
+            (IsErrOf result HoldFail.Failed) };
 
     /// Gives up all slots.
     fn let_go(&mut self)
@@ -47,7 +50,8 @@ pub trait Shelf: Drop {
     /// How many bytes the file has.
     fn length(&mut self, slot: u32) -> Result<u64, Failed>
         requires { IsSome (slots self.old slot) }
-        ensures value { IfOk result (λ size. (c : List ℕ) → holds self.old (name_at (slots self.old slot)) c → size ≡ length c) }
+        ensures value { IfOk result (λ size. (c : List ℕ) →
+            holds self.old (name_at (slots self.old slot)) c → size ≡ length c) }
         ensures contents { SameContents (holds self.old) (holds self.new) }
         ensures tells { Tells (holds self.old) (holds self.new) }
         ensures slots { SameSlots (slots self.old) (slots self.new) }
@@ -56,8 +60,11 @@ pub trait Shelf: Drop {
     /// Fills `out` with the file's bytes from `at` on.
     fn read(&mut self, slot: u32, at: u64, out: &mut [u8]) -> Result<(), Failed>
         requires held { IsSome (slots self.old slot) }
-        requires within { (c : List ℕ) → holds self.old (name_at (slots self.old slot)) c → at + length out.old ≤ length c }
-        ensures value { OnOk result ((c : List ℕ) → holds self.old (name_at (slots self.old slot)) c → out.new ≡ bytes_from at (length out.old) c) }
+        requires within { (c : List ℕ) → holds self.old (name_at (slots self.old slot)) c →
+            at + length out.old ≤ length c }
+        ensures value { OnOk result ((c : List ℕ) →
+            holds self.old (name_at (slots self.old slot)) c →
+            out.new ≡ bytes_from at (length out.old) c) }
         ensures contents { SameContents (holds self.old) (holds self.new) }
         ensures tells { Tells (holds self.old) (holds self.new) }
         ensures slots { SameSlots (slots self.old) (slots self.new) }
@@ -66,11 +73,17 @@ pub trait Shelf: Drop {
     /// Writes over what is there, and past the end.
     fn write_at(&mut self, slot: u32, at: u64, bytes: &[u8]) -> Result<(), Failed>
         requires held { IsSome (slots self.old slot) }
-        requires begins { (c : List ℕ) → holds self.old (name_at (slots self.old slot)) c → at ≤ length c }
+        requires begins { (c : List ℕ) → holds self.old (name_at (slots self.old slot)) c →
+            at ≤ length c }
         requires fits { at + length bytes.now ≤ most_at (slots self.old slot) }
-        ensures written { OnOk result (Follows (Written at bytes.now) (holds self.old (name_at (slots self.old slot))) (holds self.new (name_at (slots self.old slot)))) }
-        ensures torn { Follows (Torn at (length bytes.now)) (holds self.old (name_at (slots self.old slot))) (holds self.new (name_at (slots self.old slot))) }
-        ensures others { SameOthers (name_at (slots self.old slot)) (holds self.old) (holds self.new) }
+        ensures written { OnOk result (Follows (Written at bytes.now)
+            (holds self.old (name_at (slots self.old slot)))
+            (holds self.new (name_at (slots self.old slot)))) }
+        ensures torn { Follows (Torn at (length bytes.now))
+            (holds self.old (name_at (slots self.old slot)))
+            (holds self.new (name_at (slots self.old slot))) }
+        ensures others { SameOthers (name_at (slots self.old slot))
+            (holds self.old) (holds self.new) }
         ensures tells { Tells (holds self.old) (holds self.new) }
         ensures slots { SameSlots (slots self.old) (slots self.new) }
         ensures cause { HasCause (faults self.old) (faults self.new) (IsErr result) };
@@ -78,10 +91,16 @@ pub trait Shelf: Drop {
     /// Cuts the file to a length that it has or passes.
     fn cut(&mut self, slot: u32, size: u64) -> Result<(), Failed>
         requires held { IsSome (slots self.old slot) }
-        requires shortens { (c : List ℕ) → holds self.old (name_at (slots self.old slot)) c → size ≤ length c }
-        ensures shortened { OnOk result (Follows (Shortened size) (holds self.old (name_at (slots self.old slot))) (holds self.new (name_at (slots self.old slot)))) }
-        ensures trimmed { Follows (Trimmed size) (holds self.old (name_at (slots self.old slot))) (holds self.new (name_at (slots self.old slot))) }
-        ensures others { SameOthers (name_at (slots self.old slot)) (holds self.old) (holds self.new) }
+        requires shortens { (c : List ℕ) → holds self.old (name_at (slots self.old slot)) c →
+            size ≤ length c }
+        ensures shortened { OnOk result (Follows (Shortened size)
+            (holds self.old (name_at (slots self.old slot)))
+            (holds self.new (name_at (slots self.old slot)))) }
+        ensures trimmed { Follows (Trimmed size)
+            (holds self.old (name_at (slots self.old slot)))
+            (holds self.new (name_at (slots self.old slot))) }
+        ensures others { SameOthers (name_at (slots self.old slot))
+            (holds self.old) (holds self.new) }
         ensures tells { Tells (holds self.old) (holds self.new) }
         ensures slots { SameSlots (slots self.old) (slots self.new) }
         ensures cause { HasCause (faults self.old) (faults self.new) (IsErr result) };

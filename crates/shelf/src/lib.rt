@@ -1,8 +1,21 @@
-//! Files and streams as traits, in memory for tests, and over the real folder and the real standard error.
+//! Files and streams as traits, in memory for tests, and over the real folder and the real
+//! standard error.
 #![tactic(auto)]
 
+mod count;
 mod disk;
+mod folder_shelf;
+mod mem_file;
+mod mem_shelf;
+mod mem_sink;
 mod sink;
+mod std_sink;
+#[cfg(test)]
+mod tests;
 
 pub use disk::{HoldFail, Shelf};
-pub use sink::{Failed, Sink};
+pub use folder_shelf::FolderShelf;
+pub use mem_shelf::MemShelf;
+pub use mem_sink::MemSink;
+pub use sink::{Failed, NoSink, Sink};
+pub use std_sink::StdSink;

@@ -1,5 +1,5 @@
 // Where messages go.
-ghost use Rattle.std.specs.Prelude.{◌≡◌, ℕ, List, Option, OnOk, OnErr, IsErr};
+ghost use Rattle.std.specs.Prelude.{◌≡◌, ℕ, List, Option, None, OnOk, OnErr, IsErr, IsOk};
 ghost use Rattle.shelf.specs.Causes.{HasCause};
 ghost use Rattle.shelf.specs.Stream.{with_bytes, GrewByLess};
 
@@ -20,4 +20,23 @@ pub trait Sink {
         ensures all { OnOk result (written self.new ≡ with_bytes (written self.old) bytes.now) }
         ensures part { OnErr result (GrewByLess (written self.old) (written self.new) bytes.now) }
         ensures cause { HasCause (faults self.old) (faults self.new) (IsErr result) };
+}
+
+/// Takes every write and keeps nothing.
+#[derive(Clone, Copy, Debug, PartialEq, Eq)]
+pub struct NoSink;
+
+impl Sink for NoSink {
+    ghost written = { λ _. None };
+
+    ghost faults = { λ _. 0 };
+
+    fn write(&mut self, _bytes: &[u8]) -> Result<(), Failed>
+        ensures all { OnOk result (None ≡ with_bytes None _bytes.now) }
+        ensures part { OnErr result (GrewByLess None None _bytes.now) }
+        ensures cause { HasCause 0 0 (IsErr result) }
+        ensures taken { IsOk result }
+    {
+        Ok(())
+    }
 }
