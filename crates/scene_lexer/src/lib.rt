@@ -2,8 +2,17 @@
 #![tactic(auto)]
 
 mod bytes;
+mod found;
+mod lexer;
 mod name;
+mod number;
+mod read;
+mod scan;
 mod token;
 
+pub use lexer::lex;
 pub use name::Name;
 pub use token::{Kind, LexFault, Place, Token};
+
+#[cfg(test)]
+mod tests;

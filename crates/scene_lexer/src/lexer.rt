@@ -1,0 +1,65 @@
+// The tokens of a text.
+ghost use Rattle.std.specs.Prelude.{◌≡◌, ◌≢◌, ◌≤◌, ◌<◌, ◌^◌, length, IfOk, IfErr, All, AllPairs, Ok, Err};
+ghost use Rattle.scene_lexer.specs.Tokens.{tokens_of, mark_length, Ascend};
+ghost use Rattle.scene_lexer.specs.declared.token.LexFault.TheVariants.{NoMemory};
+
+use crate::bytes::is_white;
+use crate::read::read_token;
+use crate::scan::rest_of;
+use crate::{LexFault, Place, Token};
+use std::alloc::Global;
+
+/// How long the UTF-8 mark is that the text begins with, or 0.
+fn mark_length(text: &[u8]) -> usize
+    ensures { result ≡ mark_length text.now }
+{
+    if text.starts_with(&[0xef, 0xbb, 0xbf]) {
+        3
+    } else {
+        0
+    }
+}
+
+/// The tokens of the text with this number, or the first fault by place.
+/// Bytes are counted from 0 with a UTF-8 mark at the start, lines from 1.
+pub fn lex(alloc: Global, file: u32, text: &[u8]) -> Result<Vec<Token>, LexFault>
+    requires { length text.now ≤ 2 ^ 24 }
+    ensures tokens { IfOk result (λ found. tokens_of file text.now ≡ Ok found.items) }
+    ensures fault { IfErr result (λ f. f ≢ LexFault.NoMemory → tokens_of file text.now ≡ Err f) }
+    ensures spans { IfOk result (λ found. Ascend (length text.now) found.items) }
+{
+    let mut tokens = Vec::new(alloc);
+    let mut at = mark_length(text);
+    let mut line = 1;
+    'bytes: while at < text.len() {
+        let byte = text[at];
+        if is_white(byte) {
+            if byte == b'\n' {
+                line += 1;
+            }
+            at += 1;
+            continue;
+        }
+        let place = Place {
+            file,
+            at: at as u32,
+            line,
+        };
+        match read_token(rest_of(text, at), place) {
+            Ok(found) => {
+                at += found.length;
+                line += found.lines;
+                let token = Token {
+                    kind: found.kind,
+                    place,
+                    to: at as u32,
+                };
+                if tokens.push(token).is_err() {
+                    return Err(LexFault::NoMemory);
+                }
+            }
+            Err(fault) => return Err(fault),
+        }
+    }
+    Ok(tokens)
+}
