@@ -1,8 +1,10 @@
 //! Fixed-point numbers, vectors and byte strings: the values that every other crate computes with.
 #![tactic(auto)]
 
+mod arithmetic;
 mod fix;
 mod text;
 
+pub use arithmetic::{channel_byte, mul, rounded};
 pub use fix::{Fix, NumFault, V3};
 pub use text::Str;
