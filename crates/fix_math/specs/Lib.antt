@@ -1,2 +1,5 @@
+pub mod Floor
 pub mod Numbers
+pub mod Order
 pub mod Outcomes
+pub mod Ring
