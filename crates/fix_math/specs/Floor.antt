@@ -88,6 +88,16 @@ rnd_within a k n h le =
     let low : rnd (neg_ℤ (pos n) *ℤ pos k) (pos k) ≤ℤ rnd a (pos k) = rnd_monotone (neg_ℤ (pos n) *ℤ pos k) a (pos k) positive (omega (arith, ints, mul-neg_left (pos n) (pos k))) in
     omega (arith, ints, rnd_exact (pos n) (pos k) positive, rnd_exact (neg_ℤ (pos n)) (pos k) positive)
 
+pub rnd_at_least : (a : ℤ) (k n : ℕ) → 0 < k → n * k ≤ unsigned_abs a → n ≤ unsigned_abs (rnd a (pos k))
+rnd_at_least (pos a) k n h le =
+    let positive : pos 0 <ℤ pos k = omega (arith, ints) in
+    let high : rnd (pos n *ℤ pos k) (pos k) ≤ℤ rnd (pos a) (pos k) = rnd_monotone (pos n *ℤ pos k) (pos a) (pos k) positive (omega (arith, ints)) in
+    omega (arith, ints, rnd_exact (pos n) (pos k) positive)
+rnd_at_least (negsuc a) k n h le =
+    let positive : pos 0 <ℤ pos k = omega (arith, ints) in
+    let low : rnd (negsuc a) (pos k) ≤ℤ rnd (neg_ℤ (pos n) *ℤ pos k) (pos k) = rnd_monotone (negsuc a) (neg_ℤ (pos n) *ℤ pos k) (pos k) positive (omega (arith, ints, mul-neg_left (pos n) (pos k))) in
+    omega (arith, ints, rnd_exact (neg_ℤ (pos n)) (pos k) positive)
+
 -- a number that isn't negative has no negative quotient
 pub rnd_not_negative : (a b : ℤ) → pos 0 <ℤ b → pos 0 ≤ℤ a → pos 0 ≤ℤ rnd a b
 rnd_not_negative a b h le = floor_above (a +ℤ a +ℤ b) (b +ℤ b) (pos 0) (omega (arith, ints)) (omega (arith, ints))

@@ -3,3 +3,5 @@ pub mod Numbers
 pub mod Order
 pub mod Outcomes
 pub mod Ring
+pub mod RootLaws
+pub mod Roots

@@ -56,6 +56,15 @@ impl Fix {
         }
     }
 
+    /// The value with this raw number, which is known to be in range.
+    #[inline]
+    pub fn from_known(raw: i128) -> Fix
+        requires { IsInRange raw }
+        ensures { result ≡ raw }
+    {
+        Fix(raw as i64)
+    }
+
     /// The raw number, in units of 1/65536.
     #[inline]
     pub fn raw(self) -> i64
