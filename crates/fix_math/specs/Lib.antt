@@ -1,4 +1,6 @@
+pub mod Directions
 pub mod Floor
+pub mod NearRoots
 pub mod Numbers
 pub mod Order
 pub mod Outcomes

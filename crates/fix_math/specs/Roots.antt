@@ -1,27 +1,7 @@
--- The root of a natural, and vectors of length 1 unit.
-use Rattle.std.specs.Prelude.{ℕ, zero, suc, pos, ◌+ℤ◌, ◌*ℤ◌, ◌+◌, ◌*◌, ◌^◌, unsigned_abs, nat_le, nat_eq, max, if◌then◌else◌}
-use Rattle.fix_math.specs.declared.fix.V3.{V3}
-use Rattle.fix_math.specs.Numbers.{rnd}
+-- The root of a natural.
+use Rattle.std.specs.Prelude.{ℕ, zero, suc, ◌+◌, ◌*◌, nat_le, if◌then◌else◌}
 
 -- the floor of the root of n: it grows by one at each square
 unfoldable pub root : ℕ → ℕ
 root zero = 0
 root (suc n) = let before = root n in if nat_le ((before + 1) * (before + 1)) (suc n) then before + 1 else before
-
--- a vector's length with 16 fraction bits more than a raw number has: 0 for the zero vector alone
-abbrev pub length_of : V3 → ℕ
-length_of v = root (unsigned_abs (v.x *ℤ v.x +ℤ v.y *ℤ v.y +ℤ v.z *ℤ v.z) * 2 ^ 32)
-
--- the vector of length 1 unit in the same direction, each component rounded once; <0, 0, 1> for the zero vector
-abbrev pub unit_of : V3 → V3
-unit_of v =
-    if nat_eq (length_of v) 0 then record { x = pos 0; y = pos 0; z = pos 65536 }
-    else record {
-      x = rnd (v.x *ℤ pos (2 ^ 32)) (pos (length_of v));
-      y = rnd (v.y *ℤ pos (2 ^ 32)) (pos (length_of v));
-      z = rnd (v.z *ℤ pos (2 ^ 32)) (pos (length_of v));
-    }
-
--- the size of the greatest component
-abbrev pub greatest_of : V3 → ℕ
-greatest_of v = max (max (unsigned_abs v.x) (unsigned_abs v.y)) (unsigned_abs v.z)

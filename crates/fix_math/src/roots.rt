@@ -1,69 +1,89 @@
-// Roots, and vectors of length 1 unit.
-ghost use Rattle.std.specs.Prelude.{◌≡◌, ◌+◌, ◌*◌, ◌<◌, ◌≤◌, ◌^◌, pos, ◌*ℤ◌, unsigned_abs};
-ghost use Rattle.fix_math.specs.Numbers.{rnd};
-ghost use Rattle.fix_math.specs.Roots.{root, length_of, unit_of, greatest_of};
+// The root of a natural.
+ghost use Rattle.std.specs.Prelude.{◌≡◌, ◌+◌, ◌*◌, ◌/◌, ◌<◌, ◌≤◌, ◌^◌};
+ghost use Rattle.fix_math.specs.NearRoots.{IsNearRoot};
+ghost use Rattle.fix_math.specs.Roots.{root};
 
-use crate::arithmetic::rounded;
-use crate::fix::{Fix, V3};
-
-/// The floor of the square root.
+/// The floor of the square root, by four steps of Newton's: each gives twice as many digits.
 pub fn isqrt(n: u128) -> u64
     ensures value { result ≡ root n }
     ensures least { result * result ≤ n }
     ensures most { n < (result + 1) * (result + 1) }
 {
-    n.isqrt() as u64
-}
-
-// A vector's length with 16 fraction bits more than a raw number has: 0 for the zero vector alone.
-fn length(v: &V3) -> u64
-    ensures value { result ≡ length_of v.now }
-    ensures x_within { unsigned_abs v.now.x * 2 ^ 16 ≤ result }
-    ensures y_within { unsigned_abs v.now.y * 2 ^ 16 ≤ result }
-    ensures z_within { unsigned_abs v.now.z * 2 ^ 16 ≤ result }
-    ensures short { result ≤ greatest_of v.now * 2 ^ 17 }
-{
-    isqrt((square(v.x) + square(v.y) + square(v.z)) << 32)
-}
-
-fn square(number: Fix) -> u128
-    ensures value { result ≡ unsigned_abs number * unsigned_abs number }
-    ensures small { result < 2 ^ 94 }
-{
-    let size = number.wide().unsigned_abs();
-    size * size
-}
-
-// A component's share of 1 unit, where the vector's length has 16 fraction bits more.
-fn share(component: Fix, length: u64) -> Fix
-    requires whole { 0 < length }
-    requires within { unsigned_abs component * 2 ^ 16 ≤ length }
-    ensures value { result ≡ rnd (component *ℤ pos (2 ^ 32)) (pos length) }
-    ensures small { unsigned_abs result ≤ 65536 }
-    ensures long { length ≤ unsigned_abs component * 2 ^ 17 → 32768 ≤ unsigned_abs result }
-{
-    Fix::from_known(rounded(component.wide() << 32, length as i128))
-}
-
-/// The vector of length 1 unit in the same direction; <0, 0, 1> for the zero vector.
-pub fn unit(v: V3) -> V3
-    ensures value { result ≡ unit_of v }
-    ensures x_small { unsigned_abs result.x ≤ 65536 }
-    ensures y_small { unsigned_abs result.y ≤ 65536 }
-    ensures z_small { unsigned_abs result.z ≤ 65536 }
-    ensures long { 32768 ≤ greatest_of result }
-{
-    let length = length(&v);
-    if length == 0 {
-        return V3 {
-            x: Fix(0),
-            y: Fix(0),
-            z: Fix(65536),
-        };
+    if n == 0 {
+        return 0;
     }
-    V3 {
-        x: share(v.x, length),
-        y: share(v.y, length),
-        z: share(v.z, length),
+    let pairs = n.leading_zeros() / 2;
+    root_of_long(n << (2 * pairs)) >> pairs
+}
+
+// The floor of the root of a number whose first two digits aren't both 0.
+fn root_of_long(n: u128) -> u64
+    requires { 2 ^ 126 ≤ n }
+    ensures least { result * result ≤ n }
+    ensures most { n < (result + 1) * (result + 1) }
+{
+    root_from_near(n, near_root_of_long(n, near_root((n >> 64) as u64)))
+}
+
+// The root is the number near it or the one before.
+#[inline]
+fn root_from_near(n: u128, near: u128) -> u64
+    requires near { IsNearRoot n near }
+    requires some { 1 ≤ near }
+    ensures least { result * result ≤ n }
+    ensures most { n < (result + 1) * (result + 1) }
+{
+    let before = near - 1;
+    if n - before * before > 2 * before {
+        near as u64
+    } else {
+        before as u64
     }
+}
+
+const HALF_OF_LONG: u128 = 1 << 31;
+
+#[inline]
+fn near_root_of_long(n: u128, near: u64) -> u128
+    requires near { IsNearRoot (n / 2 ^ 64) near }
+    requires coarse { 2 ^ 31 ≤ near }
+    requires small { near ≤ 2 ^ 32 }
+    ensures near { IsNearRoot n result }
+    ensures some { 1 ≤ result }
+{
+    near as u128 * HALF_OF_LONG + n / (4 * HALF_OF_LONG) / near as u128
+}
+
+// A number near the root of a number whose first two digits aren't both 0.
+fn near_root(m: u64) -> u64
+    requires { 2 ^ 62 ≤ m }
+    ensures near { IsNearRoot m result }
+    ensures least { 2 ^ 31 ≤ result }
+    ensures most { result ≤ 2 ^ 32 }
+{
+    let four_digits = near_root_of_byte(m >> 56);
+    let eight_digits = refined(m >> 48, four_digits, 8);
+    let sixteen_digits = refined(m >> 32, eight_digits, 128);
+    refined(m, sixteen_digits, 32768)
+}
+
+// From a number near the root of the leading digits of m to one near the root of m.
+#[inline(always)]
+fn refined(m: u64, near: u64, half: u64) -> u64
+    requires near { IsNearRoot (m / (4 * half * half)) near }
+    requires some { 1 ≤ half }
+    requires coarse { half ≤ near }
+    requires small { near ≤ 2 ^ 31 }
+    ensures { IsNearRoot m result }
+{
+    near * half + m / (4 * half) / near
+}
+
+// A line that stays near the root between 64 and 256.
+fn near_root_of_byte(m: u64) -> u64
+    requires least { 64 ≤ m }
+    requires most { m < 256 }
+    ensures { IsNearRoot m result }
+{
+    (m + 147) / 24
 }
