@@ -67,6 +67,15 @@ rnd_is a b q h low high = floor_is (a +ℤ a +ℤ b) (b +ℤ b) q (omega (arith,
 pub rnd_monotone : (a c b : ℤ) → pos 0 <ℤ b → a ≤ℤ c → rnd a b ≤ℤ rnd c b
 rnd_monotone a c b h le = floor_monotone (a +ℤ a +ℤ b) (c +ℤ c +ℤ b) (b +ℤ b) (omega (arith, ints)) (omega (arith, ints))
 
+-- by an even number: half of it is added before the division that rounds down
+pub rnd_even : (a : ℤ) (h : ℕ) → 0 < h → rnd a (pos (h + h)) ≡ int_div_euclid (a +ℤ pos h) (pos (h + h))
+rnd_even a h some =
+    let q : ℤ = int_div_euclid (a +ℤ pos h) (pos (h + h)) in
+    let twice = mul-add_left q (pos (h + h)) (pos (h + h)) in
+    rnd_is a (pos (h + h)) q (omega (arith, ints))
+    (omega (arith, ints, twice, floor_least (a +ℤ pos h) (pos (h + h)) (omega (arith, ints))))
+    (omega (arith, ints, twice, floor_most (a +ℤ pos h) (pos (h + h)) (omega (arith, ints))))
+
 -- exact multiples aren't rounded
 pub rnd_exact : (q b : ℤ) → pos 0 <ℤ b → rnd (q *ℤ b) b ≡ q
 rnd_exact q b h =

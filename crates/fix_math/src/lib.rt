@@ -7,7 +7,7 @@ mod fix;
 mod roots;
 mod text;
 
-pub use arithmetic::{channel_byte, mul, rounded};
+pub use arithmetic::{add, channel_byte, div, mul, rounded, rounded_quotient, rounded_shift, sub};
 pub use directions::unit;
 pub use fix::{Fix, NumFault, V3};
 pub use roots::isqrt;
