@@ -1,3 +1,4 @@
 mod LengthLemmas
 mod NearRootLemmas
 mod ShiftLemmas
+mod ExcessLemmas

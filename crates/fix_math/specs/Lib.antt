@@ -1,5 +1,6 @@
 pub mod Directions
 pub mod Floor
+pub mod Least
 pub mod NearRoots
 pub mod Numbers
 pub mod Order

@@ -1,5 +1,5 @@
 -- Numbers with 16 fraction bits. A number stands for its raw whole number: 1 unit is 65536 raw.
-use Rattle.std.specs.Prelude.{ℕ, ℤ, pos, ◌+ℤ◌, ◌*ℤ◌, neg_ℤ, ◌-◌, ◌<◌, ◌^◌, unsigned_abs, int_lt, if◌then◌else◌}
+use Rattle.std.specs.Prelude.{ℕ, ℤ, Bool, nat_lt, pos, ◌+ℤ◌, ◌*ℤ◌, neg_ℤ, ◌-◌, ◌<◌, ◌^◌, unsigned_abs, int_lt, if◌then◌else◌}
 use Rattle.std.specs.Int.{int_div_euclid, int_min}
 
 -- the quotient of a by b > 0, rounded to the nearest whole number, halves up: the floor of (2a + b) / 2b
@@ -13,6 +13,9 @@ quotient a b = if int_lt b (pos 0) then rnd (neg_ℤ a) (neg_ℤ b) else rnd a b
 -- the raw numbers that a value may have
 abbrev pub IsInRange : ℤ → Type 0
 IsInRange z = unsigned_abs z < 2 ^ 47
+
+abbrev pub is_raw : ℤ → Bool
+is_raw z = nat_lt (unsigned_abs z) (2 ^ 47)
 
 -- the product of two values, rounded once
 abbrev pub product_of : ℤ → ℤ → ℤ

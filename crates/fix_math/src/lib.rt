@@ -8,7 +8,7 @@ mod roots;
 mod text;
 
 pub use arithmetic::{add, channel_byte, div, mul, rounded, rounded_quotient, rounded_shift, sub};
-pub use directions::unit;
+pub use directions::{unit, unit_wide};
 pub use fix::{Fix, NumFault, V3};
 pub use roots::isqrt;
 pub use text::Str;
