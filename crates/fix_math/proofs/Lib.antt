@@ -2,3 +2,4 @@ mod LengthLemmas
 mod NearRootLemmas
 mod ShiftLemmas
 mod ExcessLemmas
+mod SeriesLemmas

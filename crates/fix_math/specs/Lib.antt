@@ -1,3 +1,4 @@
+pub mod Angles
 pub mod Directions
 pub mod Floor
 pub mod Least
