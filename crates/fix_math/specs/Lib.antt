@@ -1,1 +1,11 @@
+pub mod Angles
+pub mod Directions
+pub mod Floor
+pub mod Least
+pub mod NearRoots
 pub mod Numbers
+pub mod Order
+pub mod Outcomes
+pub mod Ring
+pub mod RootLaws
+pub mod Roots

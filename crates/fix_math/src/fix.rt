@@ -1,6 +1,7 @@
 // Numbers with 16 fraction bits.
 ghost use Rattle.std.specs.Prelude.{◌≡◌, ◌↔◌, neg_ℤ, pos, ◌≤ℤ◌, IfOk, IsErrOf};
-ghost use Rattle.fix_math.specs.Numbers.{product_of, sample_of, IsInRange};
+ghost use Rattle.fix_math.specs.Numbers.{IsInRange};
+ghost use Rattle.fix_math.specs.Outcomes.{in_range};
 
 use std::marker::Model;
 
@@ -43,7 +44,8 @@ pub enum NumFault {
 impl Fix {
     /// The value with this raw number, where there is one.
     pub fn from_raw(raw: i128) -> Result<Fix, NumFault>
-        ensures value { IfOk result (λ value. value ≡ raw) }
+        ensures value { result ≡ in_range raw }
+        ensures exact { IfOk result (λ value. value ≡ raw) }
         ensures range { IsErrOf result NumFault.Range ↔ ¬ IsInRange raw }
         ensures divisor { IsErrOf result NumFault.ZeroDivisor → ⊥ }
     {
@@ -62,6 +64,15 @@ impl Fix {
         Fix(-self.0)
     }
 
+    /// The value with this raw number, which is known to be in range.
+    #[inline]
+    pub fn from_known(raw: i128) -> Fix
+        requires { IsInRange raw }
+        ensures { result ≡ raw }
+    {
+        Fix(raw as i64)
+    }
+
     /// The raw number, in units of 1/65536.
     #[inline]
     pub fn raw(self) -> i64
@@ -69,5 +80,14 @@ impl Fix {
         ensures small { IsInRange result }
     {
         self.0
+    }
+
+    /// The raw number in 128 bits, for products and sums that may be larger than any value.
+    #[inline]
+    pub fn wide(self) -> i128
+        ensures value { result ≡ self }
+        ensures small { IsInRange result }
+    {
+        self.0 as i128
     }
 }

@@ -1,0 +1,5 @@
+mod LengthLemmas
+mod NearRootLemmas
+mod ShiftLemmas
+mod ExcessLemmas
+mod SeriesLemmas
