@@ -1,0 +1,4 @@
+pub mod Ring
+pub mod Floors
+pub mod Bent
+pub mod Slabs
