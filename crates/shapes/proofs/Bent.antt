@@ -1,7 +1,7 @@
 -- Numbers whose steps grow: first they fall, then they climb.
-use Rattle.std.proofs.Common.{ℕ, zero, suc, ℤ, pos, ◌+◌, ◌-◌, ◌<◌, ◌≤◌, ◌+ℤ◌, ◌-ℤ◌, ◌*ℤ◌, ◌<ℤ◌, ◌≤ℤ◌, ◌≡◌, subst, ap, sym, true, false, ⊎_elim, ◌↔◌, add-zero, arith}
+use Rattle.std.proofs.Common.{ℕ, zero, suc, ℤ, pos, ◌+◌, ◌-◌, ◌<◌, ◌≤◌, ◌+ℤ◌, ◌*ℤ◌, ◌<ℤ◌, ◌≤ℤ◌, ◌≡◌, subst, ap, sym, true, false, ⊎_elim, ◌↔◌, add-zero, arith}
 use Rattle.std.proofs.lemmas.Int.{ints}
-use Rattle.shapes.proofs.Ring.{diff, diff-parts, diff-pos, diff-same, ring_rules}
+use Rattle.shapes.proofs.Ring.{diff-parts, diff-pos, diff-same, ring_rules}
 use Rattle.std.proofs.lemmas.Bool.{cases_lt}
 use Rattle.shapes.specs.declared.span.Span.{Span}
 use Rattle.shapes.specs.Lines.{IsWithin, value_at, square_distance_at}

@@ -1,5 +1,5 @@
 -- Bounds on sizes, and on squares.
-use Rattle.std.proofs.Common.{ℕ, ℤ, pos, negsuc, ◌+◌, ◌*◌, ◌<◌, ◌≤◌, ◌+ℤ◌, ◌-ℤ◌, ◌*ℤ◌, ◌≤ℤ◌, ◌≡◌, ◌↔◌, ◌^◌, w64, FitsSigned, refl, arith, ⊎_elim, mul-le-mul, unsigned_abs}
+use Rattle.std.proofs.Common.{ℕ, ℤ, pos, negsuc, ◌+◌, ◌*◌, ◌≤◌, ◌+ℤ◌, ◌-ℤ◌, ◌*ℤ◌, ◌≤ℤ◌, ◌≡◌, ◌↔◌, ◌^◌, w64, FitsSigned, refl, arith, ⊎_elim, mul-le-mul, unsigned_abs}
 use Rattle.std.proofs.lemmas.Int.{ints, fits_signed_from_abs}
 use Rattle.std.proofs.lemmas.Bool.{cases_lt}
 use Rattle.shapes.specs.Spheres.{square}
@@ -25,10 +25,11 @@ pub near_from_squares : (x y z b : ℤ) → (square x +ℤ square y +ℤ square 
 near_from_squares x y z b h =
     let ex = square_size x in
     let ey = square_size y in
-    let ez = square_size z in
-    ( root_under x b (unsigned_abs y * unsigned_abs y + unsigned_abs z * unsigned_abs z) (omega (arith, ints))
-    , root_under y b (unsigned_abs x * unsigned_abs x + unsigned_abs z * unsigned_abs z) (omega (arith, ints))
-    , root_under z b (unsigned_abs x * unsigned_abs x + unsigned_abs y * unsigned_abs y) (omega (arith, ints)))
+    let ez = square_size z in (
+      root_under x b (unsigned_abs y * unsigned_abs y + unsigned_abs z * unsigned_abs z) (omega (arith, ints)),
+      root_under y b (unsigned_abs x * unsigned_abs x + unsigned_abs z * unsigned_abs z) (omega (arith, ints)),
+      root_under z b (unsigned_abs x * unsigned_abs x + unsigned_abs y * unsigned_abs y) (omega (arith, ints)),
+    )
 
 pub fits_difference : (a b : ℤ) → unsigned_abs a ≤ 2 ^ 28 → unsigned_abs b ≤ 2 ^ 28 → FitsSigned w64 (a -ℤ b)
 fits_difference a b h k = fits_signed_from_abs w64 _ (omega (arith, ints))
@@ -41,17 +42,19 @@ offset_line o c s t = omega (arith, ints)
 
 -- a span that a line's size is kept within, by its two tests
 pub slab_chain : (a b : Type 0) (u v w bound : ℤ) → pos 0 ≤ℤ bound → v ≡ u -ℤ bound → w ≡ (pos 0 -ℤ u) -ℤ bound → a ↔ (b × (v ≤ℤ pos 0) × (w ≤ℤ pos 0)) → a ↔ (b × (unsigned_abs u ≤ unsigned_abs bound))
-slab_chain a b u v w bound low e f h =
-    ( λ x. let k = h.0 x in (k.0, (slab_iff u bound low).0 (rw (← e) k.1, rw (← f) k.2))
-    , λ k. let m = (slab_iff u bound low).1 k.1 in h.1 (k.0, rw e m.0, rw f m.1))
+slab_chain a b u v w bound low e f h = (
+  λ x. let k = h.0 x in (k.0, (slab_iff u bound low).0 (rw (← e) k.1, rw (← f) k.2)),
+  λ k. let m = (slab_iff u bound low).1 k.1 in h.1 (k.0, rw e m.0, rw f m.1),
+)
 
 -- the numbers in a box around a sphere, and then those in the sphere
 pub sphere_chain : (a b d : Type 0) (x y z p q r radius limit long : ℤ) → x ≡ p → y ≡ q → z ≡ r → long ≡ radius → limit ≡ square long
     → a ↔ (b × ((square x +ℤ square y +ℤ square z) ≤ℤ limit))
     → b ↔ (d × (unsigned_abs x ≤ unsigned_abs long) × (unsigned_abs y ≤ unsigned_abs long) × (unsigned_abs z ≤ unsigned_abs long))
     → a ↔ (d × ((square p +ℤ square q +ℤ square r) ≤ℤ square radius))
-sphere_chain a b d x y z p q r radius limit long ex ey ez er el h k =
-    ( λ s. let m = h.0 s in ((k.0 m.0).0, rw (← ex, ← ey, ← ez, ← er, ← el) m.1)
-    , λ m. let n : (square x +ℤ square y +ℤ square z) ≤ℤ square long = rw (ex, ey, ez, er) m.1 in
-        let i = near_from_squares x y z long n in
-        h.1 (k.1 (m.0, i.0, i.1, i.2), rw el n))
+sphere_chain a b d x y z p q r radius limit long ex ey ez er el h k = (
+  λ s. let m = h.0 s in ((k.0 m.0).0, rw (← ex, ← ey, ← ez, ← er, ← el) m.1),
+  λ m. let n : (square x +ℤ square y +ℤ square z) ≤ℤ square long = rw (ex, ey, ez, er) m.1 in
+      let i = near_from_squares x y z long n in
+      h.1 (k.1 (m.0, i.0, i.1, i.2), rw el n),
+)

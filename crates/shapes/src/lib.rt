@@ -6,12 +6,12 @@ mod path;
 mod ranges;
 mod ray;
 mod search;
-mod solid;
 mod span;
 mod sphere;
+mod volume;
 
 pub use path::{Path, last_t};
 pub use ranges::Ranges;
 pub use ray::Ray;
-pub use solid::Solid;
 pub use sphere::Sphere;
+pub use volume::Volume;

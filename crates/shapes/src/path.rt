@@ -1,10 +1,11 @@
 // The part of a ray that is in the world.
 ghost use Rattle.std.specs.Prelude.{◌≡◌, ◌↔◌, ℕ, pos, ◌<◌, ◌≤◌, ◌^◌, min, IfSome, IsNone, IsTrue, unsigned_abs};
-ghost use Rattle.shapes.specs.Rays.{IsInWorld, IsRayDirection, point_at};
+ghost use Rattle.shapes.specs.Rays.{IsInWorld, IsRayDirection, coordinate_at, point_at};
+ghost use Rattle.shapes.specs.Lines.{IsWithin};
 
 use crate::ray::Ray;
 use crate::span::{Line, Span};
-use fix_math::{Fix, V3};
+use fix_math::Fix;
 
 /// How far the world reaches along each axis, in units of 2^-32.
 const WORLD: i64 = 1 << 44;
@@ -37,11 +38,11 @@ impl Path {
         ensures reach { IfSome result
             (λ path. (t : ℕ) → (t < path.end) ↔ IsInWorld (point_at ray.now t)) }
     {
-        let Ray { origin, dir } = *ray;
+        let origin = ray.origin;
         if !is_near(origin.x) || !is_near(origin.y) || !is_near(origin.z) {
             return None;
         }
-        let end = reach(origin, dir);
+        let end = reach(ray);
         Some(Path { ray: *ray, end })
     }
 
@@ -58,22 +59,31 @@ impl Path {
     }
 }
 
-/// How many of a ray's numbers are in the world, where it begins inside.
-fn reach(origin: V3, dir: V3) -> u64
-    requires x { unsigned_abs origin.x ≤ 2 ^ 28 }
-    requires y { unsigned_abs origin.y ≤ 2 ^ 28 }
-    requires z { unsigned_abs origin.z ≤ 2 ^ 28 }
-    requires direction { IsRayDirection dir }
-    ensures { (t : ℕ) → (t < result)
-        ↔ IsInWorld (point_at (record { origin = origin; dir = dir }) t) }
+/// The numbers of the span at which one coordinate of a ray is in the world.
+fn along(origin: Fix, step: Fix, span: Span) -> Span
+    requires origin_near { unsigned_abs origin ≤ 2 ^ 28 }
+    requires step_small { unsigned_abs step ≤ 65537 }
+    ensures { (t : ℕ) → IsWithin result t
+        ↔ (IsWithin span t × (unsigned_abs (coordinate_at origin step t) ≤ 2 ^ 44)) }
 {
-    let span = Span {
+    Line::coordinate(origin, Fix(0), step).slab(WORLD, span)
+}
+
+/// How many of a ray's numbers are in the world, where it begins inside.
+fn reach(ray: &Ray) -> u64
+    requires origin { IsInWorld (point_at ray.now 0) }
+    requires direction { IsRayDirection ray.now.dir }
+    ensures near { result ≤ 2 ^ 31 }
+    ensures exact { (t : ℕ) → (t < result) ↔ IsInWorld (point_at ray.now t) }
+{
+    let Ray { origin, dir } = *ray;
+    let whole = Span {
         from: 0,
         end: 1 << 31,
     };
-    let along_x = Line::coordinate(origin.x, Fix(0), dir.x).slab(WORLD, span);
-    let along_y = Line::coordinate(origin.y, Fix(0), dir.y).slab(WORLD, along_x);
-    let along_z = Line::coordinate(origin.z, Fix(0), dir.z).slab(WORLD, along_y);
+    let along_x = along(origin.x, dir.x, whole);
+    let along_y = along(origin.y, dir.y, along_x);
+    let along_z = along(origin.z, dir.z, along_y);
     along_z.end
 }
 

@@ -6,8 +6,8 @@ use crate::curve::{Curve, valley};
 use crate::path::Path;
 use crate::ranges::Ranges;
 use crate::ray::Ray;
-use crate::solid::Solid;
 use crate::span::{Line, Span};
+use crate::volume::Volume;
 use fix_math::{Fix, V3};
 
 /// The points that are no farther from a centre than a radius. (Reference manual, sphere)
@@ -130,7 +130,7 @@ impl Sphere {
     }
 }
 
-impl Solid for Sphere {
+impl Volume for Sphere {
     ghost use Rattle.shapes.specs.Spheres.{IsInSphere};
 
     ghost holds = { λ sphere. IsInSphere sphere.centre sphere.radius };

@@ -1,7 +1,6 @@
-use Rattle.std.proofs.Common.{rules, arith, ◌≡◌, ◌∙◌, ◌↔◌, ℕ, pos, ◌<ℤ◌, ◌≤ℤ◌, w64, ℤ, ◌+ℤ◌, ◌-ℤ◌, ◌*ℤ◌, FitsSigned, to_z, of_z}
+use Rattle.std.proofs.Common.{rules, arith, ◌≡◌, ◌∙◌, pos, w64, ◌-ℤ◌, FitsSigned}
 use Rattle.std.proofs.lemmas.Int.{ints, to_z-of_z, fits_signed_from_abs}
 use Rattle.std.specs.Int.{int_div_euclid}
-use Rattle.shapes.specs.Lines.{value_at}
 use Rattle.shapes.proofs.Floors.{last_high}
 use Rattle.shapes.proofs.span.Line.last_above.Goals as goal
 

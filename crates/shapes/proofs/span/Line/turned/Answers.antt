@@ -1,4 +1,4 @@
-use Rattle.std.proofs.Common.{rules, arith, ◌≡◌, pos, w64, ◌-ℤ◌, FitsSigned}
+use Rattle.std.proofs.Common.{rules, arith, pos, w64, ◌-ℤ◌, FitsSigned}
 use Rattle.std.proofs.lemmas.Int.{ints, to_z-of_z, fits_signed_from_abs}
 use Rattle.shapes.proofs.Floors.{product_neg}
 use Rattle.shapes.proofs.span.Line.turned.Goals as goal

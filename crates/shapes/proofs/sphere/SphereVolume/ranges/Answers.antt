@@ -1,11 +1,11 @@
-use Rattle.std.proofs.Common.{arith, ◌≡◌, ◌*ℤ◌, pos, ℕ, ◌≤◌, ◌↔◌, rules, w64, FitsSigned, ap}
+use Rattle.std.proofs.Common.{arith, ◌≡◌, rules, w64, FitsSigned}
 use Rattle.std.proofs.lemmas.Int.{to_z-of_z}
 use Rattle.std.specs.Int.{w128}
-use Rattle.shapes.specs.Lines.{IsWithin, value_at}
+use Rattle.shapes.specs.Lines.{value_at}
 use Rattle.shapes.specs.Spheres.{square}
 use Rattle.shapes.proofs.Bent.{IsConvex-distance}
 use Rattle.shapes.proofs.Slabs.{sphere_chain}
-use Rattle.shapes.proofs.sphere.SphereSolid.ranges.Goals as goal
+use Rattle.shapes.proofs.sphere.SphereVolume.ranges.Goals as goal
 
 pub valley-requires-clause-opens : goal.valley-requires-clause-opens
 valley-requires-clause-opens c = IsConvex-distance c.distance-distance.result.x c.distance-distance.result.y c.distance-distance.result.z
@@ -22,5 +22,5 @@ returns-clause-numbers c = λ t.
     let b = simp to_z-of_z at (c.valley.ensures t) in
     let d = simp to_z-of_z at (c.boxed-span.ensures t) in
     let m = sphere_chain _ _ _ (value_at c.distance-distance.result.x t) (value_at c.distance-distance.result.y t) (value_at c.distance-distance.result.z t) _ _ _ _ c.of.result.value c.long_radius-radius.result
-        (c.distance-distance.ensures.x t) (c.distance-distance.ensures.y t) (c.distance-distance.ensures.z t) c.long_radius-radius.ensures.value limit b d in
+    (c.distance-distance.ensures.x t) (c.distance-distance.ensures.y t) (c.distance-distance.ensures.z t) c.long_radius-radius.ensures.value limit b d in
     (λ i. m.0 (a.0 i), λ k. a.1 (m.1 k))
