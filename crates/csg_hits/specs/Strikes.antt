@@ -30,3 +30,10 @@ pub record IsFirstChange (fact : ℕ → Type 0) (from t : ℕ) : Type 0 where
   pub low : from ≤ t
   pub change : ChangesAt fact t
   pub before : (s : ℕ) → from ≤ s → s < t → ¬ ChangesAt fact s
+
+-- the first number from one on and below the end at which a volume is struck
+pub record IsFirstStrike (holds : Position → Type 0) (ray : Ray) (from end t : ℕ) : Type 0 where
+  pub low : from ≤ t
+  pub high : t < end
+  pub struck : IsStruck holds ray t
+  pub before : (s : ℕ) → from ≤ s → s < t → ¬ IsStruck holds ray s

@@ -4,7 +4,7 @@ ghost use Rattle.shapes.specs.Rays.{IsRayDirection};
 ghost use Rattle.csg_hits.specs.Nearest.{IsHit, IsNearest};
 
 use crate::hit::Hit;
-use crate::strike::first_change;
+use crate::strike::first_strike;
 use shapes::{Path, Ray, Volume};
 
 /// How far a ray goes, at least, before it can hit: so it doesn't hit the surface where it begins.
@@ -22,15 +22,12 @@ pub fn nearest<V: Volume>(objects: &[V], ray: &Ray, after: u64) -> Option<Hit>
     let from = after.saturating_add(1).max(NEAR);
     let mut best = None;
     for (number, object) in objects.iter().enumerate() {
-        let ranges = object.ranges(&path);
-        if let Some(t) = first_change(&ranges.spans[..ranges.count as usize], from) {
-            if t < path.end {
-                best = Some(Hit {
-                    t,
-                    object: number as u32,
-                });
-                path = path.up_to(t);
-            }
+        if let Some(t) = first_strike(object, &path, from) {
+            best = Some(Hit {
+                t,
+                object: number as u32,
+            });
+            path = path.up_to(t);
         }
     }
     best
