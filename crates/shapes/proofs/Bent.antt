@@ -1,7 +1,8 @@
 -- Numbers whose steps grow: first they fall, then they climb.
 use Rattle.std.proofs.Common.{ℕ, zero, suc, ℤ, pos, ◌+◌, ◌-◌, ◌<◌, ◌≤◌, ◌+ℤ◌, ◌*ℤ◌, ◌<ℤ◌, ◌≤ℤ◌, ◌≡◌, subst, ap, sym, true, false, ⊎_elim, ◌↔◌, add-zero, arith}
 use Rattle.std.proofs.lemmas.Int.{ints}
-use Rattle.shapes.proofs.Ring.{diff-parts, diff-pos, diff-same, ring_rules}
+use Rattle.fix_math.specs.Order.{square-not_negative}
+use Rattle.fix_math.specs.Ring.{diff-parts, diff-pos, diff-same, ring_rules}
 use Rattle.std.proofs.lemmas.Bool.{cases_lt}
 use Rattle.shapes.specs.declared.span.Span.{Span}
 use Rattle.shapes.specs.Lines.{IsWithin, value_at, square_distance_at}
@@ -107,14 +108,11 @@ square_bends : (a s t u w : ℤ) → u ≡ t +ℤ pos 1 → w ≡ t +ℤ pos 2 �
 square_bends a s t u w e f =
     rw (e, f, diff-parts a, diff-parts s, diff-parts t, diff-pos 1, diff-pos 2) (simp ring_rules (diff-same _ _ _ _ (omega arith)))
 
-square_low : (s : ℤ) → pos 0 ≤ℤ (s *ℤ s)
-square_low s = grind (arith, ints)
-
 IsConvex-square : (line : Line) → IsConvex (λ t. square (value_at line t))
 IsConvex-square line = record {
   steps = λ t.
       let e = square_bends line.at line.step (pos t) (pos (t + 1)) (pos (t + 2)) (omega (arith, ints)) (omega (arith, ints)) in
-      let k = square_low line.step in
+      let k = square-not_negative line.step in
       omega (arith, ints);
 }
 

@@ -1,5 +1,4 @@
-pub mod Ring
-pub mod Floors
+pub mod Quotients
 pub mod Bent
 pub mod Slabs
 pub mod World

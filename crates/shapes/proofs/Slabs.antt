@@ -2,6 +2,7 @@
 use Rattle.std.proofs.Common.{ℕ, ℤ, pos, negsuc, ◌+◌, ◌*◌, ◌≤◌, ◌+ℤ◌, ◌-ℤ◌, ◌*ℤ◌, ◌≤ℤ◌, ◌≡◌, ◌↔◌, ◌^◌, w64, FitsSigned, refl, arith, ⊎_elim, mul-le-mul, unsigned_abs}
 use Rattle.std.proofs.lemmas.Int.{ints, fits_signed_from_abs}
 use Rattle.std.proofs.lemmas.Bool.{cases_lt}
+use Rattle.fix_math.specs.Order.{square-size}
 use Rattle.shapes.specs.Spheres.{square}
 
 pub slab_iff : (u b : ℤ) → pos 0 ≤ℤ b → (((u -ℤ b) ≤ℤ pos 0) × (((pos 0 -ℤ u) -ℤ b) ≤ℤ pos 0)) ↔ (unsigned_abs u ≤ unsigned_abs b)
@@ -9,23 +10,19 @@ slab_iff (pos m) (pos n) h = (λ k. omega (arith, ints, k.0), λ k. (omega (arit
 slab_iff (negsuc m) (pos n) h = (λ k. omega (arith, ints, k.1), λ k. (omega (arith, ints), omega (arith, ints)))
 slab_iff u (negsuc n) h = absurd (omega (arith, ints))
 
-square_size : (z : ℤ) → square z ≡ pos (unsigned_abs z * unsigned_abs z)
-square_size (pos n) = refl
-square_size (negsuc n) = omega (arith, ints)
-
 root_le : (m n : ℕ) → m * m ≤ n * n → m ≤ n
 root_le m n h = ⊎_elim (λ lt. absurd (let k : (n + 1) * (n + 1) ≤ m * m = mul-le-mul (omega arith) (omega arith) in omega arith)) (λ le. le) (cases_lt n m)
 
 root_under : (x b : ℤ) (rest : ℕ) → pos (unsigned_abs x * unsigned_abs x + rest) ≤ℤ square b → unsigned_abs x ≤ unsigned_abs b
 root_under x b rest h =
-    let e = square_size b in
+    let e = square-size b in
     root_le (unsigned_abs x) (unsigned_abs b) (omega (arith, ints))
 
 pub near_from_squares : (x y z b : ℤ) → (square x +ℤ square y +ℤ square z) ≤ℤ square b → (unsigned_abs x ≤ unsigned_abs b) × (unsigned_abs y ≤ unsigned_abs b) × (unsigned_abs z ≤ unsigned_abs b)
 near_from_squares x y z b h =
-    let ex = square_size x in
-    let ey = square_size y in
-    let ez = square_size z in (
+    let ex = square-size x in
+    let ey = square-size y in
+    let ez = square-size z in (
       root_under x b (unsigned_abs y * unsigned_abs y + unsigned_abs z * unsigned_abs z) (omega (arith, ints)),
       root_under y b (unsigned_abs x * unsigned_abs x + unsigned_abs z * unsigned_abs z) (omega (arith, ints)),
       root_under z b (unsigned_abs x * unsigned_abs x + unsigned_abs y * unsigned_abs y) (omega (arith, ints)),
