@@ -1,0 +1,4 @@
+pub mod Quotients
+pub mod Bent
+pub mod Slabs
+pub mod World

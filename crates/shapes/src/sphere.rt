@@ -1,0 +1,144 @@
+// Spheres.
+ghost use Rattle.std.specs.Prelude.{◌≡◌, ◌↔◌, ℕ, pos, ◌<◌, ◌≤◌, ◌^◌, ◌+ℤ◌, ◌*ℤ◌, ◌≤ℤ◌, unsigned_abs};
+ghost use Rattle.shapes.specs.Spheres.{IsSphere};
+
+use crate::curve::{Curve, valley};
+use crate::path::Path;
+use crate::ranges::Ranges;
+use crate::ray::Ray;
+use crate::span::{Line, Span};
+use crate::volume::Volume;
+use fix_math::{Fix, V3};
+
+/// The points that are no farther from a centre than a radius. (Reference manual, sphere)
+#[derive(Clone, Copy)]
+pub struct Sphere {
+    pub centre: V3,
+    pub radius: Fix,
+    ghost valid: { IsSphere centre radius },
+}
+
+/// How far a ray's points are from a centre along the axes.
+#[derive(Clone, Copy)]
+struct Distance {
+    x: Line,
+    y: Line,
+    z: Line,
+    ghost x_small: { unsigned_abs x.at ≤ 2 ^ 45 },
+    ghost y_small: { unsigned_abs y.at ≤ 2 ^ 45 },
+    ghost z_small: { unsigned_abs z.at ≤ 2 ^ 45 },
+}
+
+/// The square of a distance.
+#[derive(Clone, Copy)]
+struct Square {
+    value: i128,
+    ghost small: { unsigned_abs value ≤ 2 ^ 102 },
+}
+
+impl Square {
+    ghost use Rattle.shapes.specs.Spheres.{square};
+
+    #[inline]
+    fn of(side: i64) -> Square
+        requires { unsigned_abs side < 2 ^ 50 }
+        ensures value { result.value ≡ square side }
+        ensures small { unsigned_abs result.value ≤ 2 ^ 100 }
+    {
+        Square {
+            value: side as i128 * side as i128,
+        }
+    }
+}
+
+/// The sum of three squares.
+#[inline]
+fn sum(x: Square, y: Square, z: Square) -> i128
+    requires x_small { unsigned_abs x.value ≤ 2 ^ 100 }
+    requires y_small { unsigned_abs y.value ≤ 2 ^ 100 }
+    requires z_small { unsigned_abs z.value ≤ 2 ^ 100 }
+    ensures value { result ≡ x.value +ℤ y.value +ℤ z.value }
+    ensures small { unsigned_abs result < 2 ^ 126 }
+{
+    x.value + y.value + z.value
+}
+
+impl Curve for Distance {
+    ghost use Rattle.shapes.specs.Lines.{square_distance_at};
+
+    ghost value = { λ d. square_distance_at d.x d.y d.z };
+
+    #[inline]
+    fn at(&self, t: u64) -> i128 {
+        let x = Square::of(self.x.value(t));
+        let y = Square::of(self.y.value(t));
+        let z = Square::of(self.z.value(t));
+        sum(x, y, z)
+    }
+}
+
+impl Distance {
+    ghost use Rattle.shapes.specs.Lines.{IsWithin, value_at};
+
+    /// The numbers below `end` at which no coordinate is farther away than the radius.
+    fn boxed(&self, radius: i64, end: u64) -> Span
+        requires low { pos 0 ≤ℤ radius }
+        requires high { unsigned_abs radius ≤ 2 ^ 44 }
+        ensures { (t : ℕ) → IsWithin result t ↔ ((t < end)
+            × (unsigned_abs (value_at self.now.x t) ≤ unsigned_abs radius)
+            × (unsigned_abs (value_at self.now.y t) ≤ unsigned_abs radius)
+            × (unsigned_abs (value_at self.now.z t) ≤ unsigned_abs radius)) }
+    {
+        let whole = Span { from: 0, end };
+        let along_x = self.x.slab(radius, whole);
+        let along_y = self.y.slab(radius, along_x);
+        self.z.slab(radius, along_y)
+    }
+}
+
+impl Sphere {
+    ghost use Rattle.shapes.specs.Lines.{value_at};
+    ghost use Rattle.shapes.specs.Rays.{point_at};
+    ghost use Rattle.shapes.specs.Spheres.{offset_from};
+
+    /// The radius in units of 2^-32.
+    #[inline]
+    fn long_radius(&self) -> i64
+        ensures value { result ≡ pos 65536 *ℤ self.now.radius }
+        ensures low { pos 0 ≤ℤ result }
+        ensures high { unsigned_abs result ≤ 2 ^ 44 }
+    {
+        self.radius.raw() * 65536
+    }
+
+    /// How far the path's points are from the centre.
+    #[inline]
+    fn distance(&self, path: &Path) -> Distance
+        ensures x { (t : ℕ) → value_at result.x t
+            ≡ offset_from self.now.centre.x (point_at path.now.ray t).x }
+        ensures y { (t : ℕ) → value_at result.y t
+            ≡ offset_from self.now.centre.y (point_at path.now.ray t).y }
+        ensures z { (t : ℕ) → value_at result.z t
+            ≡ offset_from self.now.centre.z (point_at path.now.ray t).z }
+    {
+        let Ray { origin, dir } = path.ray;
+        Distance {
+            x: Line::coordinate(origin.x, self.centre.x, dir.x),
+            y: Line::coordinate(origin.y, self.centre.y, dir.y),
+            z: Line::coordinate(origin.z, self.centre.z, dir.z),
+        }
+    }
+}
+
+impl Volume for Sphere {
+    ghost use Rattle.shapes.specs.Spheres.{IsInSphere};
+
+    ghost holds = { λ sphere. IsInSphere sphere.centre sphere.radius };
+
+    fn ranges(&self, path: &Path) -> Ranges {
+        let distance = self.distance(path);
+        let radius = self.long_radius();
+        let span = distance.boxed(radius, path.end);
+        Ranges::of_span(valley(&distance, Square::of(radius).value, span))
+    }
+}
