@@ -1,9 +1,11 @@
 pub mod Lists
 pub mod OptionsLemmas
 pub mod Numbers
+pub mod ItemNumbers
 pub mod Tokens
 pub mod Parts
 pub mod Steps
 pub mod Scenes
 pub mod Faults
 pub mod Stops
+pub mod Pictures

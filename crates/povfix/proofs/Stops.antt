@@ -8,12 +8,13 @@ use Rattle.povfix.specs.declared.grammar.Step.{Step}
 use Rattle.povfix.specs.declared.grammar.Item.{Item}
 use Rattle.povfix.specs.declared.parser.Refusal.{Refusal}
 use Rattle.povfix.specs.declared.parser.Refusal.TheVariants.{OutOfProfile, ValueRange, NoMemory}
-use Rattle.povfix.specs.Grammar.{kinds_of, steps_of, AreWritten, joined, Drawn, with_item, IsScene, further, IsValueFault, IsFormFault, IsRefusal}
+use Rattle.povfix.specs.Grammar.{kinds_of, steps_of, AreWritten, joined, Drawn, with_item, IsScene, further, IsValueFault, IsFormFault, IsItemInRange, IsRefusal}
 use Rattle.povfix.specs.Reading.{Form, Value, first_item, read_as, read_item, read_step, read_steps, IsStop, ◌>>=◌}
 use Rattle.povfix.proofs.Steps.{read_steps-more, read_steps-ok}
 use Rattle.povfix.proofs.Scenes.{first_item-written}
 use Rattle.povfix.proofs.Faults.{form_fault, value_fault}
 use Rattle.povfix.proofs.Tokens.{kinds_length}
+use Rattle.povfix.proofs.ItemNumbers.{item_in_range}
 
 -- where a step stops, the steps from it on stop
 pub stop_steps : (tokens : List TextToken) (refusal : Refusal) (step : Step) (steps : List Step) (kinds : List Kind) → IsStop tokens refusal (read_step step kinds) → IsStop tokens refusal (read_steps (step ∷ steps) kinds)
@@ -82,3 +83,11 @@ item_further kinds at end item drawn low high scene e =
       later = omega arith;
       scene = rw (all, front) (further (take at kinds) drawn item steps.written scene steps.done);
     }
+
+-- the numbers of an item that was read are in their ranges
+pub item_read_in_range : (kinds : List Kind) (at end : ℕ) (item : Item) → at ≤ end → end ≤ length kinds → read_steps (steps_of item) (drop at kinds) ≡ Ok (drop end kinds) → IsItemInRange item (take (end - at) (drop at kinds))
+item_read_in_range kinds at end item low high e =
+    let steps = read_steps-ok (steps_of item) (drop at kinds) (drop end kinds) e in
+    let count : length (joined steps.written) ≡ end - at = omega (arith, ap length steps.whole, length-append (joined steps.written) (drop end kinds), length-drop at kinds, length-drop end kinds) in
+    let front : take (end - at) (drop at kinds) ≡ joined steps.written = sym (ap (λ n. take n (drop at kinds)) count) ∙ ap (take (length (joined steps.written))) steps.whole ∙ take-append_seam (joined steps.written) (drop end kinds) in
+    subst (IsItemInRange item) (sym front) (item_in_range item steps.written steps.done)

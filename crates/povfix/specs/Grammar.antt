@@ -121,22 +121,36 @@ AreWritten [] [] = Unit {0}
 AreWritten (step ∷ steps) (kinds ∷ more) = Spells (parts_of step) kinds × IsTrue (is_in_range step kinds) × AreWritten steps more
 AreWritten _ _ = ⊥
 
+-- a sphere and its colour
+pub record Painted : Type 0 where
+  pub centre : V3
+  pub radius : ℤ
+  pub colour : V3
+
 -- a scene so far: its background, and its spheres in the order as written
 pub record Drawn : Type 0 where
   pub background : V3
-  pub balls : List Ball
+  pub balls : List Painted
 
 abbrev pub nothing : Drawn
 nothing = record { background = record { x = pos 0; y = pos 0; z = pos 0 }; balls = [] }
 
 -- a sphere's numbers are its centre, its radius and its colour
-abbrev pub ball_in : List Kind → Ball
+abbrev pub ball_in : List Kind → Painted
 ball_in kinds = record { centre = vector_at kinds 0; radius = number_at kinds 3; colour = vector_at kinds 4 }
 
 -- a further item: a later background counts, and spheres are kept in their order
 abbrev pub with_item : Item → List Kind → Drawn → Drawn
 with_item Item.Background kinds drawn = record drawn { background = vector_at kinds 0 }
 with_item Item.Sphere kinds drawn = record drawn { balls = drawn.balls ++ ball_in kinds ∷ [] }
+
+-- the numbers of an item are in the ranges of its parameters
+abbrev pub IsItemInRange : Item → List Kind → Type 0
+IsItemInRange Item.Background kinds = IsTrue (is_vector_between (pos 0) (pos 16777216) (vector_at kinds 0))
+IsItemInRange Item.Sphere kinds =
+    IsTrue (is_vector_between (neg_ℤ (pos 268435456)) (pos 268435456) (vector_at kinds 0))
+    × IsTrue (is_between (pos 0) (pos 268435456) (number_at kinds 3))
+    × IsTrue (is_vector_between (pos 0) (pos 16777216) (vector_at kinds 4))
 
 -- the tokens of all steps
 abbrev pub joined : List (List Kind) → List Kind
@@ -192,6 +206,10 @@ IsRefusal kinds (Refusal.OutOfProfile at) = IsFormFault kinds at
 IsRefusal kinds (Refusal.ValueRange at) = IsValueFault kinds at
 IsRefusal kinds Refusal.NoMemory = Unit {0}
 
--- what a scene draws
+-- what is drawn of a ball
+abbrev pub painted_of : Ball → Painted
+painted_of ball = record { centre = ball.sphere.centre; radius = ball.sphere.radius; colour = ball.colour }
+
+-- what is drawn of a scene
 abbrev pub drawn_of : Scene → Drawn
-drawn_of scene = record { background = scene.background; balls = scene.balls.items }
+drawn_of scene = record { background = scene.background; balls = map painted_of scene.balls.items }

@@ -1,12 +1,13 @@
 // Reads the items of a scene from its tokens.
 ghost use Rattle.std.specs.Prelude.{◌≡◌, ◌≤◌, ◌<◌, ◌+◌, IsTrue, IfOk, IfErr, OnOk, MatchResult, Ok, Err, Some, pos, drop, length};
-ghost use Rattle.povfix.specs.Grammar.{kinds_of, number_at, vector_at, ball_in, is_between, is_vector_between, is_in_range, parts_of, with_item, drawn_of, IsScene, IsRefusal};
+ghost use Rattle.povfix.specs.Grammar.{kinds_of, number_at, vector_at, ball_in, is_between, is_vector_between, is_in_range, parts_of, with_item, drawn_of, IsItemInRange, IsScene, IsRefusal};
 ghost use Rattle.povfix.specs.Reading.{fits_first, read_parts, read_step, read_steps, first_item, IsStop};
 
 use crate::grammar::{Item, Keyword, Mark, Part, Step, colour_parts, number_parts, vector_parts};
 use crate::scene::{Ball, Scene};
 use fix_math::{Fix, V3};
 use scene_lexer::{Kind, Token};
+use shapes::Sphere;
 use std::alloc::{AllocError, Global};
 
 /// Why the tokens aren't a scene, with the number of the token at fault, or the count of all at their end.
@@ -189,14 +190,18 @@ fn item_at(tokens: &[Token], at: usize) -> Option<Item>
 
 /// Puts an item into the scene.
 fn add(item: Item, tokens: &[Token], scene: &mut Scene) -> Result<(), AllocError>
+    requires { IsItemInRange item (kinds_of tokens.now) }
     ensures { OnOk result (drawn_of scene.new ≡ with_item item (kinds_of tokens.now) (drawn_of scene.old)) }
 {
     match item {
         Item::Background => scene.background = vector(tokens, 0),
         Item::Sphere => {
-            let ball = Ball {
+            let sphere = Sphere {
                 centre: vector(tokens, 0),
                 radius: number(tokens, 3),
+            };
+            let ball = Ball {
+                sphere,
                 colour: vector(tokens, 4),
             };
             scene.balls.push(ball)?;

@@ -1,8 +1,8 @@
 use Rattle.std.proofs.Common.{◌≡◌, ◌-◌, take, drop, sym, ap, ◌∙◌, subst, arith}
-use Rattle.povfix.specs.Grammar.{kinds_of, drawn_of, with_item, IsScene, empty}
+use Rattle.povfix.specs.Grammar.{IsItemInRange, kinds_of, drawn_of, with_item, IsScene, empty}
 use Rattle.povfix.specs.Reading.{read_steps, IsStop}
 use Rattle.povfix.proofs.Tokens.{kinds_length, kinds_range}
-use Rattle.povfix.proofs.Stops.{item_refused, no_item_there, item_further}
+use Rattle.povfix.proofs.Stops.{item_refused, no_item_there, item_further, item_read_in_range}
 use Rattle.povfix.proofs.parser.parse.Goals as goal
 
 pub loop-at-init : goal.loop-at-init
@@ -34,3 +34,10 @@ loop-at-preserved c =
       within = omega (arith, c.in-Ok.ensures.within.1);
       scene = subst (IsScene (take c.in-Ok.end kinds)) (sym added) more.scene;
     }
+
+pub add-requires : goal.add-requires
+add-requires c =
+    let kinds = kinds_of c.args.tokens.now in
+    subst (IsItemInRange c.in-Some.item) (sym (kinds_range c.args.tokens.now c.loop-at.at c.in-Ok.end))
+    (item_read_in_range kinds c.loop-at.at c.in-Ok.end c.in-Some.item c.in-Ok.ensures.within.0 (omega (arith, kinds_length c.args.tokens.now, c.in-Ok.ensures.within.1))
+        (ap (λ steps. read_steps steps (drop c.loop-at.at kinds)) (sym c.steps.ensures) ∙ c.in-Ok.ensures.value))

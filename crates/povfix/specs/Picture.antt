@@ -1,0 +1,51 @@
+-- The picture of a scene, as the default camera sees it: from the middle of the world along z, 1.33 units wide and one
+-- unit high at a distance of one unit. (Reference manual, camera)
+use Rattle.std.specs.Prelude.{ℕ, ℤ, pos, ◌+ℤ◌, ◌-ℤ◌, ◌*ℤ◌, ◌≡◌, ◌⊎◌, ◌+◌, ◌*◌, ◌/◌, ◌%◌, ◌<◌, List, [], ◌∷◌, length, take, drop, IsSomeAnd, slice_get}
+use Rattle.fix_math.specs.declared.fix.V3.{V3}
+use Rattle.fix_math.specs.Numbers.{rnd, sample_of}
+use Rattle.fix_math.specs.Directions.{unit_of}
+use Rattle.shapes.specs.declared.ray.Ray.{Ray}
+use Rattle.shapes.specs.Rays.{Position}
+use Rattle.shapes.specs.Spheres.{IsInSphere}
+use Rattle.csg_hits.specs.declared.hit.Hit.{Hit}
+use Rattle.csg_hits.specs.Nearest.{IsHit, IsNearest}
+use Rattle.povfix.specs.Grammar.{Painted, Drawn}
+
+-- the middle of a pixel along an axis of this extent, from the middle of the picture: twice its place counts in halves
+abbrev pub offset_of : ℤ → ℤ → ℕ → ℤ
+offset_of extent place size = rnd (extent *ℤ place) (pos (2 * size))
+
+abbrev pub right_offset : ℕ → ℕ → ℤ
+right_offset width column = offset_of (pos 87163) (pos (2 * column + 1) -ℤ pos width) width
+
+abbrev pub up_offset : ℕ → ℕ → ℤ
+up_offset height row = offset_of (pos 65536) (pos height -ℤ pos (2 * row + 1)) height
+
+-- the ray through the middle of a pixel
+abbrev pub pixel_ray_of : ℕ → ℕ → ℕ → ℕ → Ray
+pixel_ray_of width height column row = record {
+  origin = record { x = pos 0; y = pos 0; z = pos 0 };
+  dir = unit_of (record { x = right_offset width column; y = up_offset height row; z = pos 65536 });
+}
+
+abbrev pub holds_at : Painted → Position → Type 0
+holds_at ball = IsInSphere ball.centre ball.radius
+
+-- an object is hit at a number of the ray
+abbrev pub IsBallHit : List Painted → Ray → ℕ → ℕ → Type 0
+IsBallHit balls ray = IsHit holds_at balls ray 63
+
+-- a ray shows the colour of the first object that it hits, or the background
+abbrev pub Shows : Drawn → Ray → V3 → Type 0
+Shows drawn ray colour =
+    ((hit : Hit) × IsNearest (IsBallHit drawn.balls ray) hit × IsSomeAnd (slice_get drawn.balls hit.object) (λ ball. colour ≡ ball.colour))
+    ⊎ (((t object : ℕ) → ¬ IsBallHit drawn.balls ray t object) × (colour ≡ drawn.background))
+
+-- a pixel's red, green and blue
+abbrev pub bytes_of : V3 → List ℕ
+bytes_of colour = sample_of 8 colour.x ∷ sample_of 8 colour.y ∷ sample_of 8 colour.z ∷ []
+
+-- three bytes for each pixel, by rows from the top: those of the colour that its ray shows
+pub record IsPicture (drawn : Drawn) (width height : ℕ) (bytes : List ℕ) : Type 0 where
+  pub size : length bytes ≡ 3 * (width * height)
+  pub pixels : (k : ℕ) → k < width * height → (colour : V3) × Shows drawn (pixel_ray_of width height (k % width) (k / width)) colour × (take 3 (drop (3 * k) bytes) ≡ bytes_of colour)
