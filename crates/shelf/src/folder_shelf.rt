@@ -1,6 +1,6 @@
 // The storage over the files of the current folder. Its methods call free functions over its
 // fields.
-ghost use Rattle.std.specs.Prelude.{◌≡◌, [], IsErr, option_map, slice_get};
+ghost use Rattle.std.specs.Prelude.{◌≡◌, ◌+◌, ◌-◌, ◌^◌, min, [], Ok, IsErr, MatchResult, is_ok, if◌then◌else◌, option_map, slice_get};
 ghost use Rattle.shelf.specs.Causes.{HasCause};
 
 use crate::count::raise;
@@ -114,7 +114,9 @@ impl<R: Files + Send + Drop> Shelf for FolderShelf<R> {
 
 /// Counts an answer that is an error.
 fn counted<T>(answer: io::Result<T>, failures: &mut u64) -> Result<T, Failed>
-    ensures { HasCause failures.old failures.new (IsErr result) }
+    ensures value { MatchResult answer (λ value. result ≡ Ok value) (λ _. IsErr result) }
+    ensures cause { HasCause failures.old failures.new (IsErr result) }
+    ensures counted { failures.new ≡ (if is_ok answer then failures.old else min (failures.old + 1) (2 ^ 64 - 1)) }
 {
     match answer {
         Ok(value) => Ok(value),

@@ -98,6 +98,9 @@ fn follows_rows<S: Shelf>(shelf: &mut S, slot: u32) -> Result<bool, Failed>
     Ok(true)
 }
 
+/// A shelf that another thread may own.
+fn sendable<S: Shelf + Send>(_shelf: &S) {}
+
 #[test]
 fn sinks_in_memory(rt: HostRuntime) -> Result<(), Fail> {
     let mut sink = MemSink::with_room(rt.alloc(), 5)?;
@@ -131,13 +134,18 @@ fn sink_over_a_stream(rt: HostRuntime) -> Result<(), Fail> {
     let mut shut = StdSink::new(fs::open(&rt, "said.txt")?);
     assert_eq!(rt; shut.write(b""), Ok(()));
     assert_eq!(rt; shut.write(b"more"), Err(Failed));
+    fs::remove_file(&rt, "said.txt")?;
     Ok(())
 }
 
 #[test]
 fn folder(rt: HostRuntime) -> Result<(), Fail> {
+    fs::write(&rt, "image.bin", b"older")?;
     let mut shelf = FolderShelf::new(rt, rt.alloc());
+    sendable(&shelf);
     let slot = shelf.hold(rt.alloc(), b"image.bin", 16)?;
+    assert_eq!(rt; shelf.length(slot), Ok(5));
+    apply(&mut shelf, slot, Step::Cut(0))?;
     assert!(rt; follows_rows(&mut shelf, slot)?);
     assert_eq!(rt;
         fs::read(&rt, "image.bin")?.as_slice(),
@@ -151,12 +159,14 @@ fn folder(rt: HostRuntime) -> Result<(), Fail> {
     let slot = shelf.hold(rt.alloc(), b"image.bin", 16)?;
     read_part(&mut shelf, slot, 5, &mut part)?;
     assert_eq!(rt; &part, b"bytes");
+    fs::remove_file(&rt, "image.bin")?;
     Ok(())
 }
 
 #[test]
 fn memory(rt: HostRuntime) -> Result<(), Fail> {
     let mut shelf = MemShelf::new(rt.alloc());
+    sendable(&shelf);
     assert_eq!(rt; shelf.contents(b"image.bin"), b"".as_slice());
     let slot = shelf.hold(rt.alloc(), b"image.bin", 16)?;
     assert!(rt; follows_rows(&mut shelf, slot)?);
