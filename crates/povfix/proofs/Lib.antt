@@ -8,4 +8,10 @@ pub mod Steps
 pub mod Scenes
 pub mod Faults
 pub mod Stops
+pub mod Storing
+pub mod Telling
+pub mod Counts
+pub mod Meanings
+pub mod PlanSides
+pub mod Verdicts
 pub mod Pictures

@@ -36,7 +36,7 @@ stem_of_dotted name n within dot none =
     let count : length name - suffix_len (λ b. not (b == 46)) name - 1 ≡ n = omega arith in
     rw dotted (ap (λ m. take m name) count)
 
-plan_from-cons : (n : ℕ) (plan : Plan) (word : List ℕ) (words : List (List ℕ)) → plan_from n plan (word ∷ words) ≡ (setting_of n word >>= λ setting. plan_from (n + 1) (applied setting word plan) words)
+pub plan_from-cons : (n : ℕ) (plan : Plan) (word : List ℕ) (words : List (List ℕ)) → plan_from n plan (word ∷ words) ≡ (setting_of n word >>= λ setting. plan_from (n + 1) (applied setting word plan) words)
 unfolding plan_from
 plan_from-cons n plan word words = refl
 

@@ -67,7 +67,7 @@ some_of : (kinds : List Kind) (item : Item) → first_item kinds ≡ Some item �
 some_of [] item e = cc
 some_of (kind ∷ kinds) item e = omega arith
 
-some_tokens : (item : Item) (written : List (List Kind)) → AreWritten (steps_of item) written → 0 < length (joined written)
+pub some_tokens : (item : Item) (written : List (List Kind)) → AreWritten (steps_of item) written → 0 < length (joined written)
 some_tokens item written done = some_of (joined written) item (ap first_item (sym (append-nil (joined written))) ∙ first_item-written item written [] done)
 
 pub item_further : (kinds : List Kind) (at end : ℕ) (item : Item) (drawn : Drawn) → at ≤ end → end ≤ length kinds → IsScene (take at kinds) drawn → read_steps (steps_of item) (drop at kinds) ≡ Ok (drop end kinds) → Further kinds at end item drawn

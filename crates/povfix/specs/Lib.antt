@@ -5,4 +5,5 @@ pub mod Picture
 pub mod Ppm
 pub mod Lines
 pub mod Texts
+pub mod Verdict
 pub mod Reading

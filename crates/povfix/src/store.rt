@@ -34,11 +34,8 @@ fn write_whole<S: Shelf>(shelf: &mut S, slot: u32, file: &[u8]) -> Result<(), Fa
     ensures tells { Tells (S.holds shelf.old) (S.holds shelf.new) }
     ensures cause { HasCause (S.faults shelf.old) (S.faults shelf.new) (IsErr result) }
 {
-    if shelf.write_at(slot, 0, file).is_err() {
-        return Err(Failed);
-    }
-    if shelf.cut(slot, file.len() as u64).is_err() {
-        return Err(Failed);
-    }
-    shelf.sync(slot)
+    shelf.write_at(slot, 0, file)?;
+    shelf.cut(slot, file.len() as u64)?;
+    shelf.sync(slot)?;
+    Ok(())
 }

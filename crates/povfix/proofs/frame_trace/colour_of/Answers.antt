@@ -1,4 +1,4 @@
-use Rattle.std.proofs.Common.{◌≡◌, ℕ, subst}
+use Rattle.std.proofs.Common.{ℕ, subst}
 use Rattle.csg_hits.specs.Nearest.{IsHit, IsNearest}
 use Rattle.povfix.proofs.Pictures.{ball_holds, shows_ball, shows_background}
 use Rattle.povfix.proofs.frame_trace.colour_of.Goals as goal

@@ -1,8 +1,7 @@
-use Rattle.std.proofs.Common.{◌≡◌, ◌+◌, ◌*◌, ◌/◌, ◌%◌, ◌<◌, ◌++◌, [], ◌∷◌, length, take, drop, sym, ap, ◌∙◌, subst, refl, arith, ⊎_elim, length-append}
-use Rattle.std.proofs.lemmas.Bool.{cases_lt}
+use Rattle.std.proofs.Common.{◌≡◌, ◌*◌, ◌++◌, [], ◌∷◌, length, take, drop, ap, ◌∙◌, subst, arith}
 use Rattle.povfix.specs.Grammar.{drawn_of}
-use Rattle.povfix.specs.Picture.{pixel_ray_of, Shows, bytes_of}
-use Rattle.povfix.proofs.Pictures.{pixel_before, pixel_here, next_pixels}
+use Rattle.povfix.specs.Picture.{Shows, bytes_of}
+use Rattle.povfix.proofs.Pictures.{next_pixels}
 use Rattle.povfix.proofs.frame_trace.draw.Goals as goal
 
 pub loop-pixel-preserved : goal.loop-pixel-preserved

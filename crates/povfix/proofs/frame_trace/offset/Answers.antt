@@ -1,4 +1,4 @@
-use Rattle.std.proofs.Common.{◌≡◌, ◌≤◌, unsigned_abs, FitsSigned, arith, to_z-of_z, ◌∙◌}
+use Rattle.std.proofs.Common.{◌≤◌, unsigned_abs, FitsSigned, arith, to_z-of_z, ◌∙◌}
 use Rattle.std.specs.Int.{w128}
 use Rattle.std.proofs.lemmas.Int.{ints}
 use Rattle.povfix.proofs.Pictures.{offset_small, wide_offset}

@@ -1,0 +1,129 @@
+// From a scene text to the bytes of its picture file.
+ghost use Rattle.std.specs.Prelude.{◌≡◌, ◌≤◌, ◌<◌, ◌*◌, ◌^◌, IfOk, IfErr, MatchBool, length};
+ghost use Rattle.povfix.specs.Grammar.{drawn_of, kinds_of, IsScene};
+ghost use Rattle.povfix.specs.Picture.{IsPicture};
+ghost use Rattle.povfix.specs.Ppm.{ppm_file};
+ghost use Rattle.povfix.specs.Texts.{IsWithinLimit};
+ghost use Rattle.povfix.specs.Verdict.{lexed_fault, parsed_fault, token_place, IsDrawn, IsImage, IsMeaningless, IsMeant, IsSides, IsTextFault};
+ghost use Rattle.scene_lexer.specs.Tokens.{tokens_of};
+
+use crate::frame_trace::draw;
+use crate::options::Plan;
+use crate::outcome::Fault;
+use crate::parser::{parse, Refusal};
+use crate::ppm::ppm_file;
+use crate::scene::Scene;
+use scene_lexer::{lex, LexFault, Place, Token};
+use std::alloc::Global;
+
+/// The start of the first text.
+const START: Place = Place {
+    file: 0,
+    at: 0,
+    line: 1,
+};
+
+/// How many bytes the texts of a frame have at most, with their names and eight bytes for the lengths of each.
+const MOST_TEXT: usize = 1 << 24;
+
+/// Whether the text is short enough to be read.
+fn is_within_limit(name: &[u8], text: &[u8]) -> bool
+    ensures { MatchBool result (IsWithinLimit name.now text.now) (IsWithinLimit name.now text.now → ⊥) }
+{
+    match name.len().checked_add(8) {
+        Some(front) => match front.checked_add(text.len()) {
+            Some(size) => size <= MOST_TEXT,
+            None => false,
+        },
+        None => false,
+    }
+}
+
+/// The place of the token of this number, or the end of the last one.
+fn token_place(tokens: &[Token], at: usize) -> Place
+    ensures { result ≡ token_place tokens.now at }
+{
+    match tokens.get(at) {
+        Some(token) => token.place,
+        None => match tokens.last() {
+            Some(token) => Place {
+                at: token.to,
+                ..token.place
+            },
+            None => START,
+        },
+    }
+}
+
+/// The fault that a refusal of the bytes is answered by.
+fn lexed(fault: LexFault) -> Fault
+    ensures { result ≡ lexed_fault fault }
+{
+    match fault {
+        LexFault::BadByte(place) => Fault::SceneFault(b'L', 1, place),
+        LexFault::OpenComment(place) => Fault::SceneFault(b'L', 2, place),
+        LexFault::OpenString(place) => Fault::SceneFault(b'L', 3, place),
+        LexFault::LongName(place) => Fault::SceneFault(b'L', 4, place),
+        LexFault::NumberRange(place) => Fault::SceneFault(b'L', 5, place),
+        LexFault::NoMemory => Fault::NoMemory,
+    }
+}
+
+/// The fault that a refusal of the tokens is answered by.
+fn parsed(tokens: &[Token], refusal: Refusal) -> Fault
+    ensures { result ≡ parsed_fault tokens.now refusal }
+{
+    match refusal {
+        Refusal::OutOfProfile(at) => Fault::SceneFault(b'P', 2, token_place(tokens, at)),
+        Refusal::ValueRange(at) => Fault::SceneFault(b'P', 3, token_place(tokens, at)),
+        Refusal::NoMemory => Fault::NoMemory,
+    }
+}
+
+/// The scene of a text, or why it has none.
+fn scene_of(alloc: Global, text: &[u8]) -> Result<Scene, Fault>
+    requires { length text.now ≤ 2 ^ 24 }
+    ensures scene { IfOk result (λ scene. IsMeant text.now (drawn_of scene)) }
+    ensures few { IfOk result (λ scene. length scene.balls.items < 2 ^ 32) }
+    ensures fault { IfErr result (IsMeaningless text.now) }
+{
+    let tokens = match lex(alloc, 0, text) {
+        Ok(tokens) => tokens,
+        Err(fault) => return Err(lexed(fault)),
+    };
+    match parse(alloc, &tokens) {
+        Ok(scene) => Ok(scene),
+        Err(refusal) => Err(parsed(&tokens, refusal)),
+    }
+}
+
+/// Draws the scene and puts it in the form of its file.
+fn drawn(alloc: Global, plan: &Plan, scene: &Scene) -> Result<Vec<u8>, Fault>
+    requires sides { IsSides plan.now }
+    requires few { length scene.now.balls.items < 2 ^ 32 }
+    ensures file { IfOk result (λ file. IsDrawn plan.now (drawn_of scene.now) file.items) }
+    ensures fault { IfErr result (λ fault. fault ≡ Fault.NoMemory) }
+{
+    let Ok(picture) = draw(alloc, scene, plan.width, plan.height) else {
+        return Err(Fault::NoMemory);
+    };
+    match ppm_file(alloc, plan.width, plan.height, &picture) {
+        Ok(file) => Ok(file),
+        Err(_) => Err(Fault::NoMemory),
+    }
+}
+
+/// The bytes of a text's picture file, or why it has none.
+pub fn image_file(alloc: Global, plan: &Plan, text: &[u8]) -> Result<Vec<u8>, Fault>
+    requires sides { IsSides plan.now }
+    ensures image { IfOk result (λ file. IsImage plan.now text.now file.items) }
+    ensures fault { IfErr result (IsTextFault plan.now text.now) }
+{
+    if !is_within_limit(plan.input.bytes(), text) {
+        return Err(Fault::Limit(4, START));
+    }
+    match scene_of(alloc, text) {
+        Ok(scene) => drawn(alloc, plan, &scene),
+        Err(fault) => Err(fault),
+    }
+}
