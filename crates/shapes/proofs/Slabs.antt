@@ -1,5 +1,5 @@
 -- Bounds on sizes, and on squares.
-use Rattle.std.proofs.Common.{ℕ, ℤ, pos, negsuc, ◌+◌, ◌*◌, ◌≤◌, ◌+ℤ◌, ◌-ℤ◌, ◌*ℤ◌, ◌≤ℤ◌, ◌≡◌, ◌↔◌, ◌^◌, w64, FitsSigned, refl, arith, ⊎_elim, mul-le-mul, unsigned_abs}
+use Rattle.std.proofs.Common.{ℕ, ℤ, pos, negsuc, ◌+◌, ◌*◌, ◌≤◌, ◌+ℤ◌, ◌-ℤ◌, ◌*ℤ◌, ◌≤ℤ◌, ◌≡◌, ◌↔◌, ◌^◌, w64, FitsSigned, arith, ⊎_elim, mul-le-mul, unsigned_abs}
 use Rattle.std.proofs.lemmas.Int.{ints, fits_signed_from_abs}
 use Rattle.std.proofs.lemmas.Bool.{cases_lt}
 use Rattle.fix_math.specs.Order.{square-size}

@@ -23,7 +23,7 @@ pub struct Path {
 
 /// Whether a raw coordinate is in the world.
 #[inline]
-fn is_near(coordinate: Fix) -> bool
+pub fn is_near(coordinate: Fix) -> bool
     ensures { IsTrue result ↔ (unsigned_abs coordinate ≤ 2 ^ 28) }
 {
     coordinate.raw().unsigned_abs() <= 1 << 28

@@ -1,9 +1,9 @@
 // Spheres.
-ghost use Rattle.std.specs.Prelude.{◌≡◌, ◌↔◌, ℕ, pos, ◌<◌, ◌≤◌, ◌^◌, ◌+ℤ◌, ◌*ℤ◌, ◌≤ℤ◌, unsigned_abs};
+ghost use Rattle.std.specs.Prelude.{◌≡◌, ◌↔◌, ℕ, pos, ◌<◌, ◌≤◌, ◌^◌, ◌+ℤ◌, ◌*ℤ◌, ◌≤ℤ◌, IfSome, IsSome, unsigned_abs};
 ghost use Rattle.shapes.specs.Spheres.{IsSphere};
 
 use crate::curve::{Curve, valley};
-use crate::path::Path;
+use crate::path::{Path, is_near};
 use crate::ranges::Ranges;
 use crate::ray::Ray;
 use crate::span::{Line, Span};
@@ -97,6 +97,20 @@ impl Distance {
 }
 
 impl Sphere {
+    /// The sphere of this centre and radius; none where the centre isn't in the world, or the radius
+    /// isn't from 0 to 4096 units.
+    pub fn new(centre: V3, radius: Fix) -> Option<Sphere>
+        ensures valid { IsSome result ↔ IsSphere centre radius }
+        ensures same { IfSome result (λ it. (it.centre ≡ centre) × (it.radius ≡ radius)) }
+    {
+        let near = is_near(centre.x) && is_near(centre.y) && is_near(centre.z);
+        if near && radius.raw() >= 0 && is_near(radius) {
+            Some(Sphere { centre, radius })
+        } else {
+            None
+        }
+    }
+
     ghost use Rattle.shapes.specs.Lines.{value_at};
     ghost use Rattle.shapes.specs.Rays.{point_at};
     ghost use Rattle.shapes.specs.Spheres.{offset_from};
@@ -140,5 +154,54 @@ impl Volume for Sphere {
         let radius = self.long_radius();
         let span = distance.boxed(radius, path.end);
         Ranges::of_span(valley(&distance, Square::of(radius).value, span))
+    }
+}
+
+#[cfg(test)]
+mod tests {
+    use super::*;
+    use crate::path::last_t;
+
+    fn vector(x: i32, y: i32, z: i32) -> V3 {
+        V3 {
+            x: Fix(x as i64),
+            y: Fix(y as i64),
+            z: Fix(z as i64),
+        }
+    }
+
+    #[test]
+    fn a_ray_along_z_is_inside_spheres(rt: HostRuntime) {
+        let ray = Ray {
+            origin: vector(0, 0, 0),
+            dir: V3 {
+                x: Fix(0),
+                y: Fix(0),
+                z: Fix(65536),
+            },
+        };
+        for (centre, radius, count, first, last) in [
+            (vector(0, 0, 262144), 65536i32, 1u32, 196608, 327680),
+            (vector(65536, 0, 262144), 65536, 1, 262144, 262144),
+            (vector(65537, 0, 262144), 65536, 0, 0, 0),
+            (vector(0, 0, 0), 65536, 1, 0, 65536),
+            (vector(3, 4, 262144), 5, 1, 262144, 262144),
+            (vector(0, 0, -262144), 65536, 0, 0, 0),
+            (vector(0, 0, 268435456), 65536, 1, 268369920, 268435456),
+            (vector(0, 0, 7), 0, 1, 7, 7),
+        ] {
+            let sphere = Sphere::new(centre, Fix(radius as i64));
+            let path = Path::new(&ray);
+            let ranges = match (sphere, path) {
+                (Some(sphere), Some(path)) => Some(sphere.ranges(&path)),
+                _ => None,
+            };
+            let want = Ranges {
+                count,
+                spans: [(first, last), (0, 0)],
+            };
+            assert_eq!(rt; ranges, Some(want));
+        }
+        assert_eq!(rt; last_t(&ray), Some(268435456));
     }
 }
