@@ -1,5 +1,5 @@
 -- A scene has no more spheres than tokens, and a text no more tokens than bytes.
-use Rattle.std.proofs.Common.{◌≡◌, ℕ, ◌+◌, ◌<◌, ◌≤◌, ◌++◌, List, [], ◌∷◌, length, zero, suc, arith, length-append, slice_index_or}
+use Rattle.std.proofs.Common.{ℕ, ◌+◌, ◌<◌, ◌≤◌, List, [], ◌∷◌, length, zero, suc, arith, length-append, slice_index_or}
 use Rattle.scene_lexer.specs.declared.token.Token.{Token as TextToken}
 use Rattle.scene_lexer.specs.declared.token.Kind.{Kind}
 use Rattle.scene_lexer.specs.Tokens.{Ascend}

@@ -1,21 +1,17 @@
 -- The numbers of an item are those of its parameters, one after another.
-use Rattle.std.proofs.Common.{◌≡◌, ℕ, ◌+◌, ◌-◌, ◌<◌, ◌≤◌, Bool, true, false, IsTrue, ℤ, pos, neg_ℤ, List, [], ◌∷◌, ◌++◌, length, get_or, slice_index_or, refl, sym, ap, ◌∙◌, zero, suc, arith, eqb, append_assoc}
+use Rattle.std.proofs.Common.{◌≡◌, ℕ, ◌+◌, ◌<◌, Bool, true, false, ℤ, pos, neg_ℤ, List, [], ◌∷◌, ◌++◌, length, slice_index_or, refl, sym, ap, ◌∙◌, arith}
 use Rattle.std.proofs.lemmas.Bool.Decides.{nat_tests}
 use Rattle.std.proofs.lemmas.List.{get_or_append_left, get_or-append-add}
 use Rattle.std.specs.Prelude.{if◌then◌else◌, ◌==◌}
 use Rattle.scene_lexer.specs.declared.token.Kind.{Kind}
-use Rattle.scene_lexer.specs.declared.token.Kind.TheVariants as Kind
 use Rattle.fix_math.specs.declared.fix.V3.{V3}
 use Rattle.povfix.specs.declared.grammar.Keyword.TheVariants as Keyword
 use Rattle.povfix.specs.declared.grammar.Mark.{Mark}
-use Rattle.povfix.specs.declared.grammar.Mark.TheVariants as Mark
 use Rattle.povfix.specs.declared.grammar.Part.{Part}
 use Rattle.povfix.specs.declared.grammar.Part.TheVariants.{Must, May}
 use Rattle.povfix.specs.declared.grammar.Step.{Step}
-use Rattle.povfix.specs.declared.grammar.Step.TheVariants as Step
 use Rattle.povfix.specs.declared.grammar.Item.{Item}
-use Rattle.povfix.specs.declared.grammar.Item.TheVariants as Item
-use Rattle.povfix.specs.Grammar.{fits, mark_of, is_optional, parts_of, steps_of, vector_parts, number_parts, colour_parts, signed_numbers, number_at, vector_at, is_in_range, Spells, AreWritten, joined, is_between, is_vector_between, IsItemInRange}
+use Rattle.povfix.specs.Grammar.{fits, mark_of, is_optional, parts_of, steps_of, signed_numbers, number_at, vector_at, Spells, AreWritten, joined, is_between, is_vector_between, IsItemInRange}
 use Rattle.povfix.proofs.Parts.{by_bool}
 
 -- whether a minus stands at the end

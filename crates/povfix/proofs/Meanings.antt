@@ -1,5 +1,5 @@
 -- A text without a scene is answered by its fault.
-use Rattle.std.proofs.Common.{◌≡◌, ◌⊎◌, ℕ, List, inl, inr, sym, subst}
+use Rattle.std.proofs.Common.{◌≡◌, ℕ, List, inl, inr, sym, subst}
 use Rattle.scene_lexer.specs.declared.token.LexFault.{LexFault}
 use Rattle.scene_lexer.specs.declared.token.LexFault.TheVariants.{BadByte, OpenComment, OpenString, LongName, NumberRange}
 use Rattle.scene_lexer.specs.declared.token.Place.{Place}

@@ -1,5 +1,5 @@
 -- Laws of pixels and of what their rays show.
-use Rattle.std.proofs.Common.{◌≡◌, ℕ, ℤ, pos, ◌*ℤ◌, ◌+◌, ◌*◌, ◌/◌, ◌%◌, ◌<◌, ⊎_elim, ◌≤◌, ◌++◌, [], ◌∷◌, List, length, take, drop, map, unsigned_abs, get_or, zero, suc, refl, sym, ap, ◌∙◌, subst, arith, inl, inr, Option, Some, None, length-append, FitsSigned, to_z, of_z, to_z-of_z, ◌^◌}
+use Rattle.std.proofs.Common.{◌≡◌, ℕ, ℤ, pos, ◌*ℤ◌, ◌+◌, ◌*◌, ◌/◌, ◌%◌, ◌<◌, ⊎_elim, ◌≤◌, ◌++◌, [], ◌∷◌, List, length, take, drop, map, unsigned_abs, get_or, zero, suc, refl, sym, ap, ◌∙◌, subst, arith, inl, inr, length-append, FitsSigned, to_z, of_z, to_z-of_z, ◌^◌}
 use Rattle.std.proofs.lemmas.List.{take-append-le, drop-append-le, take_all, length-drop}
 use Rattle.std.proofs.Math.Seq.{drop-append_seam}
 use Rattle.std.proofs.lemmas.Bool.{cases_lt}

@@ -1,6 +1,6 @@
 -- A file written from its start and cut to its length is the file.
-use Rattle.std.proofs.Common.{◌≡◌, ℕ, ◌+◌, ◌<◌, ◌≤◌, List, [], ◌∷◌, length, take, max, zero, suc, refl, sym, ap, ◌∙◌, arith, subst}
-use Rattle.std.specs.Prelude.{slice_index, Option}
+use Rattle.std.proofs.Common.{◌≡◌, ℕ, ◌+◌, ◌<◌, ◌≤◌, List, [], ◌∷◌, length, take, suc, refl, ap, ◌∙◌, arith, subst}
+use Rattle.std.specs.Prelude.{slice_index}
 use Rattle.shelf.specs.Disk.{Contents, Slots, name_at, Follows, SameContents, SameSlots, Tells, Written, Shortened}
 
 then_tells : (old mid new : Contents) → Tells old mid → Tells mid new → Tells old new

@@ -1,9 +1,7 @@
 -- What words and texts come to is one fault.
 use Rattle.std.proofs.Common.{◌≡◌, ◌≢◌, ◌⊎◌, ℕ, List, inl, inr, refl, sym, ap, ◌∙◌, subst, Option, Some, None, Result, Ok, Err}
-use Rattle.fix_math.specs.declared.text.Str.{Str}
 use Rattle.scene_lexer.specs.declared.token.Place.{Place}
 use Rattle.scene_lexer.specs.declared.token.Token.{Token as TextToken}
-use Rattle.scene_lexer.specs.declared.token.LexFault.{LexFault}
 use Rattle.scene_lexer.specs.Tokens.{tokens_of}
 use Rattle.povfix.specs.declared.options.Plan.{Plan}
 use Rattle.povfix.specs.declared.options.OptionFault.{OptionFault as Refused}
@@ -15,7 +13,7 @@ use Rattle.povfix.specs.Lines.{IsPlaced}
 use Rattle.povfix.specs.Grammar.{kinds_of, IsRefusal}
 use Rattle.povfix.specs.Options.{plan_of}
 use Rattle.povfix.specs.Texts.{text_of, IsWithinLimit}
-use Rattle.povfix.specs.Verdict.{lexed_fault, parsed_fault, text_start, refused_fault, HasImage, IsCaused, IsFound, IsImage, IsInner, IsLexed, IsMeaningless, IsMeant, IsParsed, IsPlanned, IsVerdict}
+use Rattle.povfix.specs.Verdict.{lexed_fault, parsed_fault, text_start, refused_fault, HasImage, IsCaused, IsFound, IsInner, IsLexed, IsMeaningless, IsParsed, IsPlanned, IsVerdict}
 use Rattle.povfix.proofs.PlanSides.{refusal_own}
 use Rattle.povfix.proofs.Scenes.{one_value_fault, scene_no_value_fault}
 use Rattle.povfix.proofs.Faults.{one_form_fault, scene_no_form_fault}

@@ -1,6 +1,6 @@
 -- The picture of a scene, as the default camera sees it: from the middle of the world along z, 1.33 units wide and one
 -- unit high at a distance of one unit. (Reference manual, camera)
-use Rattle.std.specs.Prelude.{ℕ, ℤ, pos, ◌+ℤ◌, ◌-ℤ◌, ◌*ℤ◌, ◌≡◌, ◌⊎◌, ◌+◌, ◌*◌, ◌/◌, ◌%◌, ◌<◌, List, [], ◌∷◌, length, take, drop, IsSomeAnd, slice_get}
+use Rattle.std.specs.Prelude.{ℕ, ℤ, pos, ◌-ℤ◌, ◌*ℤ◌, ◌≡◌, ◌⊎◌, ◌+◌, ◌*◌, ◌/◌, ◌%◌, ◌<◌, List, [], ◌∷◌, length, take, drop, IsSomeAnd, slice_get}
 use Rattle.fix_math.specs.declared.fix.V3.{V3}
 use Rattle.fix_math.specs.Numbers.{rnd, sample_of}
 use Rattle.fix_math.specs.Directions.{unit_of}

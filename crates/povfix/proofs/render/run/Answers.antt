@@ -1,7 +1,6 @@
 use Rattle.std.proofs.Common.{map, string_bytes, sym, ap, subst, ◌∙◌}
 use Rattle.shelf.specs.Causes.{Rose}
 use Rattle.povfix.specs.Lines.{line_of, Says}
-use Rattle.povfix.specs.Options.{plan_of}
 use Rattle.povfix.specs.Verdict.{input_of, IsPlanned}
 use Rattle.povfix.proofs.PlanSides.{plan_sides}
 use Rattle.povfix.proofs.Verdicts.{told_is_verdict, told_no_text}

@@ -1,0 +1,1 @@
+background { color rgb <1,0.5,0> }
