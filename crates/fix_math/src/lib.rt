@@ -16,3 +16,6 @@ pub use fix::{Fix, NumFault, V3};
 pub use powers::{power, power_unit};
 pub use roots::isqrt;
 pub use text::Str;
+
+#[cfg(test)]
+mod tests;
