@@ -3,3 +3,4 @@ mod NearRootLemmas
 mod ShiftLemmas
 mod ExcessLemmas
 mod SeriesLemmas
+mod PowerLemmas

@@ -6,6 +6,7 @@ pub mod NearRoots
 pub mod Numbers
 pub mod Order
 pub mod Outcomes
+pub mod Powers
 pub mod Ring
 pub mod RootLaws
 pub mod Roots

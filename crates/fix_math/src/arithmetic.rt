@@ -8,7 +8,7 @@ use crate::fix::{Fix, NumFault};
 /// The quotient, rounded to the nearest whole number, halves up.
 #[inline]
 pub fn rounded(dividend: i128, divisor: i128) -> i128
-    requires dividend_small { unsigned_abs dividend < 2 ^ 125 }
+    requires dividend_small { unsigned_abs dividend ≤ 2 ^ 125 }
     requires divisor_positive { pos 0 <ℤ divisor }
     requires divisor_small { unsigned_abs divisor < 2 ^ 125 }
     ensures value { result ≡ rnd dividend divisor }
@@ -43,7 +43,7 @@ fn power_of_two(bits: u32) -> i128
 /// are negated first.
 #[inline]
 pub fn rounded_quotient(dividend: i128, divisor: i128) -> i128
-    requires dividend_small { unsigned_abs dividend < 2 ^ 125 }
+    requires dividend_small { unsigned_abs dividend ≤ 2 ^ 125 }
     requires divisor_some { divisor ≢ pos 0 }
     requires divisor_small { unsigned_abs divisor < 2 ^ 125 }
     ensures value { result ≡ quotient dividend divisor }
