@@ -49,4 +49,14 @@ impl Name {
     {
         &self.buffer[..self.len]
     }
+
+    /// The same word again. It takes no memory.
+    pub fn copy(&self) -> Name
+        ensures { result ≡ self.now }
+    {
+        Name {
+            buffer: self.buffer,
+            len: self.len,
+        }
+    }
 }
