@@ -7,7 +7,8 @@ use Rattle.std.proofs.lemmas.List.{length-drop, drop-drop, take_all, drop_more, 
 use Rattle.std.proofs.lemmas.List.Sums.{prefix_len-le-length}
 use Rattle.scene_lexer.specs.Bytes.{is_white, is_letter, is_word}
 use Rattle.scene_lexer.specs.Spellings.{longest, is_white_space, is_line_comment, is_block_comment, is_open_comment, is_gap, is_text, is_sign, is_piece, opens_comment, closes_comment, opens_line_comment, is_in_line, mark_tail, depth_after, comment_rest, ends_there}
-use Rattle.scene_lexer.specs.Tokens.{kind_of, piece_tokens, front_of, line_feeds, tokens_at, found_tokens, IsFound, IsClosedComment}
+use Rattle.scene_lexer.specs.Tokens.{kind_of, piece_tokens, front_of, tokens_at}
+use Rattle.scene_lexer.specs.Steps.{IsClosedComment, IsFound, found_tokens, line_feeds}
 use Rattle.scene_lexer.specs.declared.found.Found.{Found}
 use Rattle.scene_lexer.specs.declared.token.Place.{Place}
 use Rattle.scene_lexer.specs.declared.token.Token.{Token}

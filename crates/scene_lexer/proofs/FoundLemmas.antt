@@ -6,8 +6,9 @@ use Rattle.std.proofs.lemmas.Bool.Decides.{nat_tests}
 use Rattle.std.proofs.lemmas.List.{append_assoc, length-take-le, take-append-drop}
 use Rattle.std.proofs.lemmas.List.Sums.{sum_by-append, sum_by-cons, prefix_len-le-length}
 use Rattle.scene_lexer.specs.Bytes.{is_white, is_digit, is_letter, is_word_byte, is_word, is_name}
-use Rattle.scene_lexer.specs.Spellings.{longest, is_sign_byte, is_gap, is_sign, is_number, is_piece, digit_count, after_digits, fraction_length, exponent_length, sign_length, is_exponent_mark, is_plus_or_minus, is_white_space, is_line_comment, is_block_comment}
-use Rattle.scene_lexer.specs.Tokens.{kind_of, number_of, word_of, front_of, line_feeds, piece_tokens, token_list, tokens_at, found_tokens, IsFound}
+use Rattle.scene_lexer.specs.Spellings.{longest, is_sign_byte, is_gap, is_sign, is_number, is_piece, digit_count, after_digits, fraction_length, sign_length, is_exponent_mark, is_plus_or_minus, is_white_space, is_line_comment, is_block_comment}
+use Rattle.scene_lexer.specs.Tokens.{kind_of, number_of, word_of, front_of, piece_tokens, token_list, tokens_at}
+use Rattle.scene_lexer.specs.Steps.{IsFound, exponent_length, found_tokens, line_feeds}
 use Rattle.scene_lexer.specs.declared.found.Found.{Found}
 use Rattle.scene_lexer.specs.declared.token.Place.{Place}
 use Rattle.scene_lexer.specs.declared.token.Token.{Token}

@@ -7,7 +7,8 @@ use Rattle.std.proofs.lemmas.List.Elements.{All-push}
 use Rattle.std.proofs.lemmas.List.Quantifiers.{all_pairs_push}
 use Rattle.scene_lexer.specs.Bytes.{is_white}
 use Rattle.scene_lexer.specs.Spellings.{longest, is_white_space, is_line_comment, is_block_comment, is_gap, is_piece}
-use Rattle.scene_lexer.specs.Tokens.{tokens_from, tokens_of, tokens_at, found_tokens, piece_tokens, token_list, kind_of, front_of, joined, line_after, line_feeds, mark_length, IsFound, Ascend}
+use Rattle.scene_lexer.specs.Tokens.{tokens_from, tokens_of, tokens_at, piece_tokens, token_list, kind_of, front_of, joined, line_after, mark_length, Ascend}
+use Rattle.scene_lexer.specs.Steps.{IsFound, found_tokens, line_feeds}
 use Rattle.scene_lexer.specs.declared.found.Found.{Found}
 use Rattle.scene_lexer.specs.declared.token.Place.{Place}
 use Rattle.scene_lexer.specs.declared.token.Token.{Token}

@@ -9,7 +9,8 @@ use Rattle.std.proofs.lemmas.Nat.{pow-add}
 use Rattle.std.proofs.Math.Nat.{pow-le-pow_right, one-le-pow, mul-le-mul_left, mul-le-mul_right}
 use Rattle.scene_lexer.specs.Bytes.{is_digit}
 use Rattle.scene_lexer.specs.Spellings.{digit_count, after_digits, fraction_length}
-use Rattle.scene_lexer.specs.Tokens.{decimal_from, whole_digits, fraction_digits, exponent_part, exponent_size, is_minus_first, size_up, size_down, power_up, power_down, number_of, scaled, IsScalable}
+use Rattle.scene_lexer.specs.Tokens.{decimal_from, whole_digits, fraction_digits, exponent_part, exponent_size, is_minus_first, size_up, size_down, power_up, power_down, number_of, scaled}
+use Rattle.scene_lexer.specs.Steps.{IsScalable}
 use Rattle.fix_math.specs.Numbers.{IsInRange}
 use Rattle.scene_lexer.specs.declared.token.Place.{Place}
 use Rattle.scene_lexer.specs.declared.token.Kind.{Kind}

@@ -6,7 +6,8 @@ use Rattle.std.proofs.lemmas.Bool.Decides.{nat_tests}
 use Rattle.std.proofs.lemmas.List.{length-drop}
 use Rattle.std.proofs.lemmas.List.Sums.{prefix_len-le-length}
 use Rattle.scene_lexer.specs.Bytes.{is_white, is_digit, is_letter, is_word_byte, is_word}
-use Rattle.scene_lexer.specs.Spellings.{longest, is_sign_byte, is_gap, is_sign, is_number, is_number_end, is_fraction, is_piece, digit_count, after_digits, fraction_length, is_empty, is_digits, is_plus_or_minus, sign_length, is_exponent_mark, exponent_length}
+use Rattle.scene_lexer.specs.Spellings.{longest, is_sign_byte, is_gap, is_sign, is_number, is_number_end, is_fraction, is_piece, digit_count, after_digits, fraction_length, is_empty, is_digits, is_plus_or_minus, sign_length, is_exponent_mark}
+use Rattle.scene_lexer.specs.Steps.{exponent_length}
 use Rattle.scene_lexer.proofs.LongestLemmas.{longest-is, longest-le, longest-none, longest-passes, longest-above, list_all-take, prefix_len-take, drop_run-take, letter-not_white, letter-not_digit, digit-not_letter, digit-not_white, sign-not_letter, sign-not_digit, sign-not_white}
 
 pub fraction-false : (b : ℕ) (s : List ℕ) → (b == 46) ≡ false → is_fraction (b ∷ s) ≡ false

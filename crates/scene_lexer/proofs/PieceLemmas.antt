@@ -5,7 +5,8 @@ use Rattle.std.proofs.lemmas.Bool.{cases_lt, cases_Bool, eqb-true, false≢true}
 use Rattle.std.proofs.lemmas.Bool.Decides.{nat_tests}
 use Rattle.std.proofs.lemmas.List.Sums.{prefix_len-le-length}
 use Rattle.scene_lexer.specs.Bytes.{is_white, is_digit, is_letter, is_word_byte, is_word}
-use Rattle.scene_lexer.specs.Spellings.{longest, is_sign_byte, is_white_space, is_line_comment, is_block_comment, is_open_comment, is_text, is_open_text, opens_comment, is_gap, is_sign, is_number, is_fraction, is_piece, two_byte_sign, two_byte_sign_of}
+use Rattle.scene_lexer.specs.Spellings.{longest, is_sign_byte, is_white_space, is_line_comment, is_block_comment, is_open_comment, is_text, is_open_text, opens_comment, is_gap, is_sign, is_number, is_fraction, is_piece, two_byte_sign}
+use Rattle.scene_lexer.specs.Steps.{two_byte_sign_of}
 use Rattle.scene_lexer.proofs.LongestLemmas.{longest-is, longest-le, longest-none, longest-same, longest-passes, longest-above, list_all-take, letter-not_white, letter-not_digit, digit-not_letter, digit-not_white, sign-not_letter, sign-not_digit, sign-not_white}
 use Rattle.scene_lexer.proofs.NumberLength.{fraction-false, and-false}
 

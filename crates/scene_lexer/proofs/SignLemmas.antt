@@ -2,8 +2,9 @@
 use Rattle.std.proofs.Common.{◌≡◌, ℕ, zero, suc, ◌+◌, ◌-◌, ◌<◌, ◌≤◌, Bool, true, false, cond, ◌&&◌, ◌||◌, ◌==◌, List, [], ◌∷◌, length, take, drop, refl, sym, ap, ◌∙◌, subst, arith, inl, inr, Result, Ok, Err, slice_index, Option, Some, None, is_some, unwrap_or, eqb}
 use Rattle.std.proofs.lemmas.Bool.{false≢true, cases_lt, cases_Bool, eqb-true, eq-eqb}
 use Rattle.scene_lexer.specs.Bytes.{is_white, is_digit, is_letter, is_word}
-use Rattle.scene_lexer.specs.Spellings.{longest, is_sign_byte, is_white_space, is_line_comment, is_block_comment, is_open_comment, is_gap, is_sign, is_number, is_piece, digit_count, two_byte_sign, two_byte_sign_of, opens_comment, opens_line_comment}
-use Rattle.scene_lexer.specs.Tokens.{kind_of, piece_tokens, front_of, line_feeds, sign_code, IsFound}
+use Rattle.scene_lexer.specs.Spellings.{longest, is_sign_byte, is_white_space, is_line_comment, is_block_comment, is_open_comment, is_gap, is_sign, is_number, is_piece, digit_count, two_byte_sign, opens_comment, opens_line_comment}
+use Rattle.scene_lexer.specs.Tokens.{kind_of, piece_tokens, front_of, sign_code}
+use Rattle.scene_lexer.specs.Steps.{IsFound, line_feeds, two_byte_sign_of}
 use Rattle.scene_lexer.specs.declared.token.Place.{Place}
 use Rattle.scene_lexer.specs.declared.token.Kind.{Kind}
 use Rattle.scene_lexer.specs.declared.token.Kind.TheVariants.{Sign}

@@ -4,7 +4,8 @@ use Rattle.std.proofs.lemmas.Bool.{false≢true, cases_lt, cases_Bool, eqb-true,
 use Rattle.std.proofs.lemmas.List.{length-drop, drop-drop, drop-take, take-take, take_all, drop_more, drop_all, length-take-le, append_assoc, append-nil}
 use Rattle.scene_lexer.specs.Bytes.{is_white, is_letter, is_word}
 use Rattle.scene_lexer.specs.Spellings.{longest, is_gap, is_text, is_open_text, is_sign, is_piece, escape, escape_of, escape_tail, text_rest, ends_there}
-use Rattle.scene_lexer.specs.Tokens.{kind_of, piece_tokens, front_of, line_feeds, unescaped, within_quotes, IsFound}
+use Rattle.scene_lexer.specs.Tokens.{kind_of, piece_tokens, front_of, unescaped, within_quotes}
+use Rattle.scene_lexer.specs.Steps.{IsFound, line_feeds}
 use Rattle.scene_lexer.specs.declared.token.Place.{Place}
 use Rattle.scene_lexer.specs.declared.token.Kind.{Kind}
 use Rattle.scene_lexer.specs.declared.token.Kind.TheVariants.{Text}

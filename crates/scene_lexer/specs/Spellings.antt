@@ -39,13 +39,6 @@ abbrev pub is_exponent : List ℕ → Bool
 is_exponent [] = false
 is_exponent (b ∷ s) = is_exponent_mark b && is_digits (drop (sign_length s) s)
 
--- how many bytes an exponent takes at the start of a text; 0 where there is none
-abbrev pub exponent_length : List ℕ → ℕ
-exponent_length [] = 0
-exponent_length (b ∷ s) =
-    if is_exponent_mark b && nat_lt 0 (digit_count (drop (sign_length s) s))
-    then suc (sign_length s + digit_count (drop (sign_length s) s)) else 0
-
 -- what may stand behind the digits of a number: nothing, or an exponent
 unfoldable pub is_number_end : List ℕ → Bool
 is_number_end s = is_empty s || is_exponent s
@@ -66,11 +59,6 @@ is_sign_byte b = list_any (λ sign. b == sign) (codes "{}()<>[],;:?.+-*/=!&|#")
 abbrev pub two_byte_sign : ℕ → ℕ → Option ℕ
 two_byte_sign b c =
     if c == 61 then (if b == 60 then Some 128 else (if b == 62 then Some 129 else (if b == 33 then Some 130 else None))) else None
-
-abbrev pub two_byte_sign_of : List ℕ → Option ℕ
-two_byte_sign_of [] = None
-two_byte_sign_of (b ∷ []) = None
-two_byte_sign_of (b ∷ c ∷ s) = two_byte_sign b c
 
 -- one byte, or two
 unfoldable pub is_sign : List ℕ → Bool

@@ -55,12 +55,6 @@ scaled n up down = rnd (pos (n * 10 ^ (up - down) * 65536)) (pos (10 ^ (down - u
 abbrev pub raw_of : List ℕ → ℤ
 raw_of s = scaled (decimal_from 0 (whole_digits s ++ fraction_digits s)) (power_up s) (power_down s)
 
--- a power of ten from -30 to 30, and a raw number below 2^47
-pub record IsScalable (n up down : ℕ) : Type 0 where
-  pub above : up - down ≤ 30
-  pub below : down - up ≤ 30
-  pub within : IsInRange (scaled n up down)
-
 -- more than 30 digits, a power of ten outside -30 to 30, or a raw number of 2^47 and more
 abbrev pub is_out_of_range : List ℕ → Bool
 is_out_of_range s =
@@ -142,29 +136,6 @@ mark_length text = if starts_with nat_eq text (239 ∷ 187 ∷ 191 ∷ []) then 
 -- the tokens of the text with this number
 unfoldable pub tokens_of : ℕ → List ℕ → Result (List Token) LexFault
 tokens_of file text = tokens_from file (mark_length text) 0 1 text
-
--- how many lines end in so many bytes
-abbrev pub line_feeds : List ℕ → ℕ
-line_feeds s = count_by (λ b. b == 10) s
-
--- the tokens of a piece that was found: none for a gap
-abbrev pub found_tokens : Place → Found → List Token
-found_tokens place found = tokens_at place (place.at + found.length) found.kind
-
--- what the text begins with: the tokens of its longest piece, that piece's length and its line feeds
-pub record IsFound (place : Place) (text : List ℕ) (found : Found) : Type 0 where
-  pub tokens_are : piece_tokens place (front_of text) ≡ Ok (found_tokens place found)
-  pub length_is : found.length ≡ length (front_of text)
-  pub lines_are : found.lines ≡ line_feeds (front_of text)
-  pub some : 0 < found.length
-
--- the comment that a text begins with is closed where the found piece ends
-pub record IsClosedComment (text : List ℕ) (found : Found) : Type 0 where
-  pub closed : comment_rest 0 1 (drop 2 text) ≡ Some (drop found.length text)
-  pub marks : 2 ≤ found.length
-  pub within : found.length ≤ length text
-  pub lines_are : found.lines ≡ line_feeds (take found.length text)
-  pub no_token : found.kind ≡ None
 
 -- each token has a byte, none begins before the one ahead of it ends, and all end within the text
 pub record Ascend (size : ℕ) (tokens : List Token) : Type 0 where

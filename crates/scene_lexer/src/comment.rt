@@ -4,7 +4,8 @@ ghost use Rattle.std.specs.Prelude.{MatchOption, None};
 ghost use Rattle.scene_lexer.specs.Spellings.{opens_comment, opens_line_comment, is_in_line};
 ghost use Rattle.scene_lexer.specs.Spellings.{mark_tail, depth_after, comment_rest};
 ghost use Rattle.std.specs.List.{prefix_len};
-ghost use Rattle.scene_lexer.specs.Tokens.{piece_tokens, front_of, IsFound, IsClosedComment};
+ghost use Rattle.scene_lexer.specs.Tokens.{piece_tokens, front_of};
+ghost use Rattle.scene_lexer.specs.Steps.{IsClosedComment, IsFound};
 
 use crate::bytes::line_end;
 use crate::found::Found;

@@ -6,7 +6,8 @@ ghost use Rattle.fix_math.specs.Numbers.{IsInRange};
 ghost use Rattle.scene_lexer.specs.Bytes.{is_digit};
 ghost use Rattle.scene_lexer.specs.Spellings.{digit_count, fraction_length, is_number, longest};
 ghost use Rattle.scene_lexer.specs.Tokens.{number_of, decimal_from, scaled, whole_digits};
-ghost use Rattle.scene_lexer.specs.Tokens.{IsScalable, size_up, size_down};
+ghost use Rattle.scene_lexer.specs.Tokens.{size_up, size_down};
+ghost use Rattle.scene_lexer.specs.Steps.{IsScalable};
 
 use crate::scan::{digit_count, exponent_length, fraction_length, rest_of, sign_length};
 use crate::{Kind, LexFault, Place};

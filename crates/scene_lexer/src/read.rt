@@ -3,8 +3,9 @@ ghost use Rattle.std.specs.Prelude.{◌≡◌, ◌≢◌, ◌<◌, ◌≤◌, �
 ghost use Rattle.std.specs.Prelude.{IfOk, IfErr};
 ghost use Rattle.scene_lexer.specs.Bytes.{is_letter, is_white};
 ghost use Rattle.scene_lexer.specs.Spellings.{is_number, is_sign_byte, longest};
-ghost use Rattle.scene_lexer.specs.Spellings.{two_byte_sign_of, opens_line_comment, opens_comment};
-ghost use Rattle.scene_lexer.specs.Tokens.{piece_tokens, front_of, IsFound};
+ghost use Rattle.scene_lexer.specs.Spellings.{opens_line_comment, opens_comment};
+ghost use Rattle.scene_lexer.specs.Tokens.{piece_tokens, front_of};
+ghost use Rattle.scene_lexer.specs.Steps.{IsFound, two_byte_sign_of};
 
 use crate::bytes::is_letter;
 use crate::comment::{read_comment, read_line_comment};

@@ -2,7 +2,8 @@
 ghost use Rattle.std.specs.Prelude.{◌≡◌, ◌+◌, ◌≤◌, drop, length};
 ghost use Rattle.std.specs.List.{prefix_len};
 ghost use Rattle.scene_lexer.specs.Bytes.{is_word_byte};
-ghost use Rattle.scene_lexer.specs.Spellings.{digit_count, exponent_length, fraction_length, sign_length};
+ghost use Rattle.scene_lexer.specs.Spellings.{digit_count, fraction_length, sign_length};
+ghost use Rattle.scene_lexer.specs.Steps.{exponent_length};
 
 use crate::bytes::{is_digit, is_word_byte};
 

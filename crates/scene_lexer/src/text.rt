@@ -1,7 +1,8 @@
 // Texts: the bytes between double quotes, their escapes resolved.
 ghost use Rattle.std.specs.Prelude.{◌≡◌, ◌≢◌, ◌+◌, ◌≤◌, ◌<◌, ◌^◌, length, slice_index, IfOk, IfErr, unwrap_or};
 ghost use Rattle.scene_lexer.specs.Spellings.{escape_of, escape, escape_tail};
-ghost use Rattle.scene_lexer.specs.Tokens.{piece_tokens, front_of, IsFound};
+ghost use Rattle.scene_lexer.specs.Tokens.{piece_tokens, front_of};
+ghost use Rattle.scene_lexer.specs.Steps.{IsFound};
 
 use crate::bytes::line_end;
 use crate::found::Found;
