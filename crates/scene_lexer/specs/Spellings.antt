@@ -50,7 +50,8 @@ is_fraction (b ∷ s) = b == 46 && (nat_lt 0 (digit_count s) && is_number_end (a
 
 -- digits, or digits with a dot and digits, or a dot and digits; then perhaps an exponent
 unfoldable pub is_number : List ℕ → Bool
-is_number s = (nat_lt 0 (digit_count s) && is_number_end (after_digits s)) || is_fraction (after_digits s)
+is_number s =
+    (nat_lt 0 (digit_count s) && is_number_end (after_digits s)) || is_fraction (after_digits s)
 
 abbrev pub is_sign_byte : ℕ → Bool
 is_sign_byte b = list_any (λ sign. b == sign) (codes "{}()<>[],;:?.+-*/=!&|#")
@@ -58,7 +59,9 @@ is_sign_byte b = list_any (λ sign. b == sign) (codes "{}()<>[],;:?.+-*/=!&|#")
 -- the codes of `<=`, `>=` and `!=`
 abbrev pub two_byte_sign : ℕ → ℕ → Option ℕ
 two_byte_sign b c =
-    if c == 61 then (if b == 60 then Some 128 else (if b == 62 then Some 129 else (if b == 33 then Some 130 else None))) else None
+    if c == 61 then
+    (if b == 60 then Some 128 else (if b == 62 then Some 129 else (if b == 33 then Some 130 else None)))
+    else None
 
 -- one byte, or two
 unfoldable pub is_sign : List ℕ → Bool
@@ -97,7 +100,8 @@ opens_comment s = starts_with nat_eq s (codes "/*")
 abbrev pub closes_comment : List ℕ → Bool
 closes_comment s = starts_with nat_eq s (codes "*/")
 
--- how many comments are open behind the mark or byte that a list begins with, where one more than depth are open before
+-- how many comments are open behind the mark or byte that a list begins with,
+-- where one more than depth are open before it
 abbrev pub depth_after : ℕ → List ℕ → ℕ
 depth_after depth s = if opens_comment s then suc (suc depth) else (if closes_comment s then depth else suc depth)
 
@@ -105,7 +109,8 @@ depth_after depth s = if opens_comment s then suc (suc depth) else (if closes_co
 abbrev pub mark_tail : List ℕ → ℕ
 mark_tail s = if opens_comment s || closes_comment s then 1 else 0
 
--- what follows the comments that are open to this depth, if all are closed; so many bytes are still to be passed over
+-- what follows the comments that are open to this depth, if all are closed;
+-- so many bytes are still to be passed over
 unfoldable pub comment_rest : ℕ → ℕ → List ℕ → Option (List ℕ)
 comment_rest zero zero s = Some s
 comment_rest (suc skip) depth [] = None
@@ -152,7 +157,8 @@ is_gap s = is_white_space s || (is_line_comment s || is_block_comment s)
 -- a gap, the spelling of a token, or a comment or text that no front of the text closes
 unfoldable pub is_piece : List ℕ → Bool
 is_piece s =
-    is_gap s || (is_word s || (is_number s || (is_text s || (is_sign s || (is_open_comment s || is_open_text s)))))
+    is_gap s || (is_word s || (is_number s || (is_text s || (is_sign s
+    || (is_open_comment s || is_open_text s)))))
 
 -- the greatest length up to n of a front of the text that passes, or 0
 unfoldable pub longest : (List ℕ → Bool) → ℕ → List ℕ → ℕ
