@@ -1,42 +1,70 @@
--- What a text begins with, by its first byte.
-use Rattle.std.proofs.Common.{◌≡◌, ℕ, zero, suc, ◌+◌, ◌<◌, ◌≤◌, Bool, true, false, cond, ◌&&◌, ◌==◌, nat_lt, nat_le, List, [], ◌∷◌, length, take, drop, refl, sym, ap, ◌∙◌, subst, arith, ◌⊎◌, inl, inr, Result, Ok, Err, slice_index}
-use Rattle.std.specs.List.{prefix_len}
-use Rattle.std.proofs.lemmas.Bool.{false≢true, cases_Bool, eqb-true}
-use Rattle.std.proofs.lemmas.List.{length-take-le}
-use Rattle.std.proofs.lemmas.List.Sums.{prefix_len-le-length}
+-- What a text begins with, by its first byte: words and numbers.
+use Rattle.std.proofs.Common.{◌≡◌, ℕ, zero, suc, ◌+◌, ◌-◌, ◌<◌, ◌≤◌, min, Bool, true, false, cond, ◌&&◌, ◌||◌, not, ◌==◌, nat_lt, nat_le, List, [], ◌∷◌, ◌++◌, length, take, drop, refl, sym, ap, ◌∙◌, subst, arith, rules, ◌⊎◌, inl, inr, Result, Ok, Err, slice_index, codes, Option, Some, None}
+use Rattle.std.specs.List.{prefix_len, count_by, sum_by, list_any}
+use Rattle.std.proofs.lemmas.Bool.{false≢true, cases_lt, cases_Bool, eqb-true}
+use Rattle.std.proofs.lemmas.Bool.Decides.{nat_tests}
+use Rattle.std.proofs.lemmas.List.{append_assoc, length-take-le, take-append-drop}
+use Rattle.std.proofs.lemmas.List.Sums.{sum_by-append, sum_by-cons, prefix_len-le-length}
 use Rattle.scene_lexer.specs.Bytes.{is_white, is_digit, is_letter, is_word_byte, is_word, is_name}
-use Rattle.scene_lexer.specs.Spellings.{longest, is_sign_byte, is_gap, is_sign, is_number, is_piece, digit_count, after_digits, fraction_length}
-use Rattle.scene_lexer.specs.Tokens.{kind_of, number_of, front_of, line_feeds, IsFound}
+use Rattle.scene_lexer.specs.Spellings.{longest, is_sign_byte, is_gap, is_sign, is_number, is_piece, digit_count, after_digits, fraction_length, sign_length, is_exponent_mark, is_plus_or_minus, is_white_space, is_line_comment, is_block_comment}
+use Rattle.scene_lexer.specs.Tokens.{kind_of, number_of, word_of, front_of, piece_tokens, token_list, tokens_at}
+use Rattle.scene_lexer.specs.Steps.{IsFound, exponent_length, found_tokens, line_feeds}
+use Rattle.scene_lexer.specs.declared.found.Found.{Found}
 use Rattle.scene_lexer.specs.declared.token.Place.{Place}
+use Rattle.scene_lexer.specs.declared.token.Token.{Token}
 use Rattle.scene_lexer.specs.declared.token.Kind.{Kind}
-use Rattle.scene_lexer.specs.declared.token.Kind.TheVariants.{Word, Sign}
+use Rattle.scene_lexer.specs.declared.token.Kind.TheVariants.{Word, Number, Sign}
 use Rattle.scene_lexer.specs.declared.token.LexFault.{LexFault}
 use Rattle.scene_lexer.specs.declared.token.LexFault.TheVariants.{BadByte, LongName}
-use Rattle.scene_lexer.proofs.LongestLemmas.{longest-le, longest-none, longest-same, longest-passes, longest-above, letter-not_white, digit-not_white}
-use Rattle.scene_lexer.proofs.PieceLemmas.{gap-false, sign-false, number-false, piece-word, piece-number, piece-sign, longest-word, longest-sign, longest-dot_number, longest-dot_sign, number_ends, lt-some}
-use Rattle.scene_lexer.proofs.TokensLemmas.{kind-word, kind-number, kind-sign, kind-bad, no_feeds-run, feeds-cons}
+use Rattle.scene_lexer.proofs.LongestLemmas.{longest-is, longest-le, longest-none, longest-same, longest-passes, longest-above, list_all-take, letter-not_white, digit-not_white}
+use Rattle.scene_lexer.proofs.NumberLength.{number_ends, longest-no_digits, lt-some, and_left, and_right, and-false, take-empty}
+use Rattle.scene_lexer.proofs.PieceLemmas.{gap-false, sign-false, number-false, piece-word, piece-number, piece-sign, longest-word, longest-sign, longest-dot_number, longest-dot_sign, letter-not_slash, digit-not_slash}
+use Rattle.scene_lexer.proofs.TokensLemmas.{kind-word, kind-number, kind-sign, kind-bad, no_feeds-run, feeds-cons, word-short, word-long}
 
-pub gap-false-front : (s : List ℕ) (n : ℕ) → is_white (slice_index s 0) ≡ false → is_gap (take n s) ≡ false
-unfolding is_gap
-gap-false-front s zero h = refl
-gap-false-front [] (suc n) h = refl
-gap-false-front (b ∷ s) (suc n) h = gap-false b (take n s) h
+pub gap-false-front : (s : List ℕ) (n : ℕ) → 0 < n → is_white (slice_index s 0) ≡ false → (47 == slice_index s 0) ≡ false → is_gap (take n s) ≡ false
+unfolding is_gap is_white_space is_line_comment is_block_comment
+gap-false-front s zero some h slash = absurd (omega arith)
+gap-false-front [] (suc n) some h slash = refl
+gap-false-front (b ∷ s) (suc n) some h slash = gap-false b (take n s) h slash
 
-word-false-front : (s : List ℕ) (n : ℕ) → is_letter (slice_index s 0) ≡ false → is_word (take n s) ≡ false
+pub word-false-front : (s : List ℕ) (n : ℕ) → is_letter (slice_index s 0) ≡ false → is_word (take n s) ≡ false
 word-false-front s zero h = refl
 word-false-front [] (suc n) h = refl
 word-false-front (b ∷ s) (suc n) h = rw h refl
 
--- a front that is one token, without line feeds
-found-by : (place : Place) (s : List ℕ) (n : ℕ) (kind : Kind) → front_of s ≡ take n s → n ≤ length s → 0 < n → is_white (slice_index s 0) ≡ false →
-    line_feeds (take n s) ≡ 0 → kind_of place (take n s) ≡ Ok kind → IsFound place s (record { kind = kind; length = n; lines = 0 })
-found-by place s n kind front within some solid feeds is = record {
-  kind_is = ap (kind_of place) front ∙ is;
+token_tokens : (place : Place) (s : List ℕ) (kind : Kind) → is_gap s ≡ false → kind_of place s ≡ Ok kind → piece_tokens place s ≡ Ok (tokens_at place (place.at + length s) (Some kind))
+unfolding piece_tokens
+token_tokens place s kind no_gap is = rw (no_gap, is) refl
+
+gap_none : (place : Place) (s : List ℕ) → is_gap s ≡ true → piece_tokens place s ≡ Ok []
+unfolding piece_tokens
+gap_none place s gap = rw gap refl
+
+fault_tokens : (place : Place) (s : List ℕ) (fault : LexFault) → is_gap s ≡ false → kind_of place s ≡ Err fault → piece_tokens place s ≡ Err fault
+unfolding piece_tokens
+fault_tokens place s fault no_gap is = rw (no_gap, is) refl
+
+-- a front that is a token, a gap or a fault
+pub found-token : (place : Place) (s : List ℕ) (n lines : ℕ) (kind : Kind) → front_of s ≡ take n s → n ≤ length s → 0 < n → is_gap (take n s) ≡ false →
+    lines ≡ line_feeds (take n s) → kind_of place (take n s) ≡ Ok kind → IsFound place s (record { kind = Some kind; length = n; lines = lines })
+found-token place s n lines kind front within some no_gap feeds is = record {
+  tokens_are = ap (piece_tokens place) front ∙ token_tokens place (take n s) kind no_gap is ∙ ap (λ k. let r : Result (List Token) LexFault = Ok (tokens_at place (place.at + k) (Some kind)) in r) (length-take-le n s within);
   length_is = sym (ap length front ∙ length-take-le n s within);
-  lines_are = sym (ap line_feeds front ∙ feeds);
-  no_gap = ap is_gap front ∙ gap-false-front s n solid;
+  lines_are = feeds ∙ sym (ap line_feeds front);
   some = some;
 }
+
+pub found-gap : (place : Place) (s : List ℕ) (n lines : ℕ) → front_of s ≡ take n s → n ≤ length s → 0 < n → is_gap (take n s) ≡ true →
+    lines ≡ line_feeds (take n s) → IsFound place s (record { kind = None; length = n; lines = lines })
+found-gap place s n lines front within some gap feeds = record {
+  tokens_are = ap (piece_tokens place) front ∙ gap_none place (take n s) gap;
+  length_is = sym (ap length front ∙ length-take-le n s within);
+  lines_are = feeds ∙ sym (ap line_feeds front);
+  some = some;
+}
+
+pub fault-front : (place : Place) (s t : List ℕ) (fault : LexFault) → front_of s ≡ t → is_gap t ≡ false → kind_of place t ≡ Err fault → piece_tokens place (front_of s) ≡ Err fault
+fault-front place s t fault front no_gap is = ap (piece_tokens place) front ∙ fault_tokens place t fault no_gap is
 
 -- words
 front-word : (s : List ℕ) → is_letter (slice_index s 0) ≡ true → front_of s ≡ take (prefix_len is_word_byte s) s
@@ -59,20 +87,24 @@ word-some [] h = absurd (false≢true h)
 word-some (b ∷ s) h = rw h (omega arith)
 
 pub word_found : (place : Place) (s : List ℕ) (n : ℕ) (name : List ℕ) → is_letter (slice_index s 0) ≡ true → n ≡ prefix_len is_word_byte s →
-    nat_le (length (take n s)) 40 ≡ true → name ≡ take n s → IsFound place s (record { kind = Word name; length = n; lines = 0 })
+    nat_le (length (take n s)) 40 ≡ true → name ≡ take n s → IsFound place s (record { kind = Some (Word name); length = n; lines = 0 })
 word_found place s n name letter is short same =
     let passes : is_word (take n s) ≡ true = subst (λ k. is_word (take k s) ≡ true) (sym is) (word-passes s letter) in
     let kind : kind_of place (take n s) ≡ Ok (Word name) =
-    kind-word place (take n s) passes ∙ rw short (ap (λ v. let r : Result Kind LexFault = Ok (Word v) in r) (sym same)) in
-    found-by place s n (Word name) (front-word s letter ∙ ap (λ k. take k s) (sym is)) (rw is (prefix_len-le-length is_word_byte s)) (rw is (word-some s letter))
-    (letter-not_white (slice_index s 0) letter)
-    (ap (λ k. line_feeds (take k s)) is ∙ no_feeds-run is_word_byte refl s) kind
+    kind-word place (take n s) passes ∙ word-short place (take n s) short ∙ ap (λ v. let r : Result Kind LexFault = Ok (Word v) in r) (sym same) in
+    let some : 0 < n = rw is (word-some s letter) in
+    found-token place s n 0 (Word name) (front-word s letter ∙ ap (λ k. take k s) (sym is)) (rw is (prefix_len-le-length is_word_byte s)) some
+    (gap-false-front s n some (letter-not_white (slice_index s 0) letter) (letter-not_slash (slice_index s 0) letter))
+    (sym (ap (λ k. line_feeds (take k s)) is ∙ no_feeds-run is_word_byte refl s)) kind
 
 pub word_long : (place : Place) (s : List ℕ) (n : ℕ) → is_letter (slice_index s 0) ≡ true → n ≡ prefix_len is_word_byte s →
-    nat_le (length (take n s)) 40 ≡ false → kind_of place (front_of s) ≡ Err (LongName place)
+    nat_le (length (take n s)) 40 ≡ false → piece_tokens place (front_of s) ≡ Err (LongName place)
 word_long place s n letter is long =
     let passes : is_word (take n s) ≡ true = subst (λ k. is_word (take k s) ≡ true) (sym is) (word-passes s letter) in
-    ap (kind_of place) (front-word s letter ∙ ap (λ k. take k s) (sym is)) ∙ kind-word place (take n s) passes ∙ rw long refl
+    let some : 0 < n = rw is (word-some s letter) in
+    fault-front place s (take n s) (LongName place) (front-word s letter ∙ ap (λ k. take k s) (sym is))
+    (gap-false-front s n some (letter-not_white (slice_index s 0) letter) (letter-not_slash (slice_index s 0) letter))
+    (kind-word place (take n s) passes ∙ word-long place (take n s) long)
 
 pub word-is : (s : List ℕ) (n : ℕ) → is_letter (slice_index s 0) ≡ true → n ≡ prefix_len is_word_byte s → is_word (take n s) ≡ true
 word-is s n letter is = subst (λ k. is_word (take k s) ≡ true) (sym is) (word-passes s letter)
@@ -91,11 +123,7 @@ name-long s word unnamed = elim (cases_Bool (nat_le (length s) 40)) [
 ]
 
 -- numbers
-take-empty : (n : ℕ) → take {A = ℕ} n [] ≡ []
-take-empty zero = refl
-take-empty (suc n) = refl
-
-feeds-take-add : (m n : ℕ) (s : List ℕ) → line_feeds (take (m + n) s) ≡ line_feeds (take m s) + line_feeds (take n (drop m s))
+pub feeds-take-add : (m n : ℕ) (s : List ℕ) → line_feeds (take (m + n) s) ≡ line_feeds (take m s) + line_feeds (take n (drop m s))
 feeds-take-add zero n s = let e : 0 + n ≡ n = omega arith in ap (λ k. line_feeds (take k s)) e ∙ omega arith
 feeds-take-add (suc m) n [] = rw (take-empty (suc m + n), take-empty n) refl
 feeds-take-add (suc m) n (b ∷ s) =
@@ -123,11 +151,44 @@ feeds-fraction (b ∷ s) = elim (cases_Bool (b == 46 && nat_lt 0 (digit_count s)
     and_left true y h = refl
     and_left false y h = h
 
-feeds-number : (s : List ℕ) → line_feeds (take (longest is_number (length s) s) s) ≡ 0
-feeds-number s =
-    ap (λ k. line_feeds (take k s)) (number_ends s)
-    ∙ feeds-take-add (digit_count s) (fraction_length (after_digits s)) s
-    ∙ omega (arith, no_feeds-run is_digit refl s, feeds-fraction (after_digits s))
+mark-no_feed : (b : ℕ) → is_exponent_mark b ≡ true → (b == 10) ≡ false
+mark-no_feed b h = grind (arith, nat_tests)
+
+sign-no_feed : (b : ℕ) → is_plus_or_minus b ≡ true → (b == 10) ≡ false
+sign-no_feed b h = grind (arith, nat_tests)
+
+feeds-exponent_sign : (s : List ℕ) → line_feeds (take (sign_length s) s) ≡ 0
+feeds-exponent_sign [] = refl
+feeds-exponent_sign (b ∷ s) = elim (cases_Bool (is_plus_or_minus b)) [
+  | inr e ↦ ap (λ v. line_feeds (take (cond v 1 0) (b ∷ s))) e
+  | inl e ↦ ap (λ v. line_feeds (take (cond v 1 0) (b ∷ s))) e ∙ feeds-cons b [] ∙ ap (λ v. cond v 1 0 + 0) (sign-no_feed b e)
+]
+
+feeds-exponent : (s : List ℕ) → line_feeds (take (exponent_length s) s) ≡ 0
+feeds-exponent [] = refl
+feeds-exponent (b ∷ s) =
+    let t = drop (sign_length s) s in
+    elim (cases_Bool (is_exponent_mark b && nat_lt 0 (digit_count t))) [
+      | inr e ↦ ap (λ v. line_feeds (take (cond v (suc (sign_length s + digit_count t)) 0) (b ∷ s))) e
+      | inl e ↦
+          ap (λ v. line_feeds (take (cond v (suc (sign_length s + digit_count t)) 0) (b ∷ s))) e
+          ∙ feeds-cons b (take (sign_length s + digit_count t) s)
+          ∙ ap (λ v. cond v 1 0 + line_feeds (take (sign_length s + digit_count t) s)) (mark-no_feed b (and_left (is_exponent_mark b) (nat_lt 0 (digit_count t)) e))
+          ∙ omega (arith, feeds-take-add (sign_length s) (digit_count t) s, feeds-exponent_sign s, no_feeds-run is_digit refl t)
+    ]
+
+feeds-number : (s : List ℕ) → 0 < longest is_number (length s) s → line_feeds (take (longest is_number (length s) s) s) ≡ 0
+feeds-number s some = elim (cases_lt 0 (digit_count s + fraction_length (after_digits s))) [
+  | inr none ↦ absurd (omega (arith, longest-no_digits s (omega arith)))
+  | inl digits ↦
+      let w = digit_count s in
+      let f = fraction_length (after_digits s) in
+      let e = exponent_length (drop f (after_digits s)) in
+      let add : w + f + e ≡ w + (f + e) = omega arith in
+      ap (λ k. line_feeds (take k s)) (number_ends s digits ∙ add)
+      ∙ feeds-take-add w (f + e) s
+      ∙ omega (arith, no_feeds-run is_digit refl s, feeds-take-add f e (after_digits s), feeds-fraction (after_digits s), feeds-exponent (drop f (after_digits s)))
+]
 
 -- a number begins with a digit or a dot
 number-head : (b : ℕ) (s : List ℕ) → 0 < longest is_number (length (b ∷ s)) (b ∷ s) → (is_digit b ≡ true) ⊎ (b ≡ 46)
@@ -147,9 +208,10 @@ number-head b s some = elim (cases_Bool (is_digit b)) [
 
 -- a number that begins with a dot has a digit more
 dot-number-long : (s : List ℕ) → 0 < longest is_number (length (46 ∷ s)) (46 ∷ s) → 1 < longest is_number (length (46 ∷ s)) (46 ∷ s)
-dot-number-long s some =
-    let e : longest is_number (length (46 ∷ s)) (46 ∷ s) ≡ fraction_length (46 ∷ s) = number_ends (46 ∷ s) ∙ omega arith in
-    rw e (long (digit_count s) (rw (← e) some))
+dot-number-long s some = elim (cases_lt 0 (fraction_length (46 ∷ s))) [
+  | inr none ↦ absurd (omega (arith, longest-no_digits (46 ∷ s) (omega arith)))
+  | inl digits ↦ omega (arith, number_ends (46 ∷ s) (omega arith), long (digit_count s) digits)
+]
   where
     long : (g : ℕ) → 0 < cond (nat_lt 0 g) (1 + g) 0 → 1 < cond (nat_lt 0 g) (1 + g) 0
     long zero h = let none : 0 < 0 = h in absurd (omega arith)
@@ -175,72 +237,30 @@ number-solid (b ∷ s) some = elim (number-head b s some) [
   | inr dot ↦ subst (λ k. is_white k ≡ false) (sym dot) refl
 ]
 
-pub number_front : (place : Place) (s : List ℕ) (n : ℕ) → is_letter (slice_index s 0) ≡ false → n ≡ longest is_number (length s) s → 0 < n →
-    kind_of place (front_of s) ≡ number_of place (take n s)
-number_front place s n letter is some =
-    ap (kind_of place) (front-number s (rw (← is) some) ∙ ap (λ k. take k s) (sym is))
-    ∙ kind-number place (take n s) (word-false-front s n letter)
+number-no_slash : (s : List ℕ) → 0 < longest is_number (length s) s → (47 == slice_index s 0) ≡ false
+unfolding longest
+number-no_slash [] some = absurd (omega arith)
+number-no_slash (b ∷ s) some = elim (number-head b s some) [
+  | inl digit ↦ digit-not_slash b digit
+  | inr dot ↦ subst (λ k. (47 == k) ≡ false) (sym dot) refl
+]
+
+number-kind : (place : Place) (s : List ℕ) (n : ℕ) → is_letter (slice_index s 0) ≡ false → n ≡ longest is_number (length s) s → 0 < n → kind_of place (take n s) ≡ number_of place (take n s)
+number-kind place s n letter is some =
+    kind-number place (take n s) (word-false-front s n letter)
     (subst (λ k. is_number (take k s) ≡ true) (sym is) (longest-passes is_number (length s) s (rw (← is) some)))
 
 pub number_found : (place : Place) (s : List ℕ) (n : ℕ) (kind : Kind) → is_letter (slice_index s 0) ≡ false → n ≡ longest is_number (length s) s → 0 < n →
-    Ok kind ≡ number_of place (take n s) → IsFound place s (record { kind = kind; length = n; lines = 0 })
+    Ok kind ≡ number_of place (take n s) → IsFound place s (record { kind = Some kind; length = n; lines = 0 })
 number_found place s n kind letter is some means =
-    let front = front-number s (rw (← is) some) ∙ ap (λ k. take k s) (sym is) in
-    let e : kind_of place (take n s) ≡ Ok kind =
-    ap (kind_of place) (sym front) ∙ number_front place s n letter is some ∙ sym means in
-    found-by place s n kind front (rw is (longest-le is_number (length s) s)) some (number-solid s (rw (← is) some))
-    (ap (λ k. line_feeds (take k s)) is ∙ feeds-number s) e
+    let long : 0 < longest is_number (length s) s = rw (← is) some in
+    let front = front-number s long ∙ ap (λ k. take k s) (sym is) in
+    found-token place s n 0 kind front (rw is (longest-le is_number (length s) s)) some (gap-false-front s n some (number-solid s long) (number-no_slash s long))
+    (sym (ap (λ k. line_feeds (take k s)) is ∙ feeds-number s long)) (number-kind place s n letter is some ∙ sym means)
 
--- signs
-no_number-head : (b : ℕ) (s : List ℕ) → longest is_number (length (b ∷ s)) (b ∷ s) ≡ 0 → is_digit b ≡ false
-no_number-head b s none = elim (cases_Bool (is_digit b)) [
-  | inr no_digit ↦ no_digit
-  | inl digit ↦
-      let some : digit_count (b ∷ s) ≡ 1 + digit_count s = ap (λ v. cond v (1 + digit_count s) 0) digit in
-      absurd (omega (arith, number_ends (b ∷ s)))
-]
-
-front-sign : (b : ℕ) (s : List ℕ) → is_white b ≡ false → is_letter b ≡ false → longest is_number (length (b ∷ s)) (b ∷ s) ≡ 0 → is_sign_byte b ≡ true → front_of (b ∷ s) ≡ b ∷ []
-unfolding front_of
-front-sign b s solid letter none sign = ap (λ n. take n (b ∷ s)) one
-  where
-    one : longest is_piece (length (b ∷ s)) (b ∷ s) ≡ 1
-    one = elim (cases_Bool (b == 46)) [
-      | inl dot ↦
-          let is : b ≡ 46 = eqb-true b 46 dot in
-          subst (λ k. longest is_piece (length (k ∷ s)) (k ∷ s) ≡ 1) (sym is)
-          (longest-dot_sign s (subst (λ k. longest is_number (length (k ∷ s)) (k ∷ s) ≡ 0) is none))
-      | inr other ↦
-          longest-same is_piece is_sign (length (b ∷ s)) b s (λ t. piece-sign b t solid letter (no_number-head b s none) other) ∙ longest-sign b s sign
-    ]
-
-front-bad : (b : ℕ) (s : List ℕ) → is_white b ≡ false → is_letter b ≡ false → longest is_number (length (b ∷ s)) (b ∷ s) ≡ 0 → is_sign_byte b ≡ false → front_of (b ∷ s) ≡ []
-unfolding front_of
-front-bad b s solid letter none sign = elim (cases_Bool (b == 46)) [
-  | inl dot ↦ absurd (false≢true (sym sign ∙ ap is_sign_byte (eqb-true b 46 dot)))
-  | inr other ↦ ap (λ n. take n (b ∷ s)) (longest-none is_piece (length (b ∷ s)) (b ∷ s) (none_at other))
-]
-  where
-    none_at : (b == 46) ≡ false → (m : ℕ) → 0 < m → m ≤ length (b ∷ s) → is_piece (take m (b ∷ s)) ≡ false
-    none_at other zero low high = absurd (omega arith)
-    none_at other (suc m) low high = piece-sign b (take m s) solid letter (no_number-head b s none) other ∙ sign-false b (take m s) sign
-
-sign-feeds : (b : ℕ) → is_sign_byte b ≡ true → line_feeds (b ∷ []) ≡ 0
-sign-feeds b sign =
-    let other : (b == 10) ≡ false = elim (cases_Bool (b == 10)) [
-      | inr differs ↦ differs
-      | inl ten ↦ absurd (false≢true (ap is_sign_byte (sym (eqb-true b 10 ten)) ∙ sign))
-    ] in
-    feeds-cons b [] ∙ ap (λ v. cond v 1 0 + 0) other
-
-pub sign_found : (place : Place) (s : List ℕ) → 0 < length s → is_white (slice_index s 0) ≡ false → is_letter (slice_index s 0) ≡ false →
-    longest is_number (length s) s ≡ 0 → is_sign_byte (slice_index s 0) ≡ true → IsFound place s (record { kind = Sign (slice_index s 0); length = 1; lines = 0 })
-sign_found place [] some solid letter number sign = absurd (omega arith)
-sign_found place (b ∷ s) some solid letter number sign =
-    found-by place (b ∷ s) 1 (Sign b) (front-sign b s solid letter number sign) (omega arith) (omega arith) solid (sign-feeds b sign)
-    (kind-sign place b letter (longest-above is_number (suc (length s)) 1 (b ∷ s) (omega arith) (omega arith)) sign)
-
-pub bad_front : (place : Place) (s : List ℕ) → 0 < length s → is_white (slice_index s 0) ≡ false → is_letter (slice_index s 0) ≡ false →
-    longest is_number (length s) s ≡ 0 → is_sign_byte (slice_index s 0) ≡ false → kind_of place (front_of s) ≡ Err (BadByte place)
-bad_front place [] some solid letter number sign = absurd (omega arith)
-bad_front place (b ∷ s) some solid letter number sign = ap (kind_of place) (front-bad b s solid letter number sign) ∙ kind-bad place
+pub number_fault : (place : Place) (s : List ℕ) (n : ℕ) (fault : LexFault) → is_letter (slice_index s 0) ≡ false → n ≡ longest is_number (length s) s → 0 < n →
+    Err fault ≡ number_of place (take n s) → piece_tokens place (front_of s) ≡ Err fault
+number_fault place s n fault letter is some means =
+    let long : 0 < longest is_number (length s) s = rw (← is) some in
+    fault-front place s (take n s) fault (front-number s long ∙ ap (λ k. take k s) (sym is)) (gap-false-front s n some (number-solid s long) (number-no_slash s long))
+    (number-kind place s n letter is some ∙ sym means)

@@ -1,21 +1,22 @@
 -- One turn of the lexer: a white byte, a token or a fault.
-use Rattle.std.proofs.Common.{◌≡◌, ℕ, zero, suc, ◌+◌, ◌-◌, ◌<◌, ◌≤◌, Bool, true, false, cond, ◌&&◌, ◌==◌, List, [], ◌∷◌, ◌++◌, length, take, drop, refl, sym, ap, ◌∙◌, subst, arith, inl, inr, Result, Ok, Err, slice_index}
+use Rattle.std.proofs.Common.{◌≡◌, ℕ, zero, suc, ◌+◌, ◌-◌, ◌<◌, ◌≤◌, Bool, true, false, cond, ◌&&◌, ◌==◌, List, [], ◌∷◌, ◌++◌, length, take, drop, refl, sym, ap, ◌∙◌, subst, arith, inl, inr, Result, Ok, Err, slice_index, Option, Some, None, is_ok, OnOk}
 use Rattle.std.proofs.lemmas.Bool.{false≢true, cases_Bool, eqb-true, eq-eqb}
 use Rattle.std.proofs.lemmas.List.{length-take-le, length-drop, drop-drop, drop_more, drop_all, append-nil}
 use Rattle.std.proofs.lemmas.List.Sums.{count_by-le-length}
 use Rattle.std.proofs.lemmas.List.Elements.{All-push}
 use Rattle.std.proofs.lemmas.List.Quantifiers.{all_pairs_push}
 use Rattle.scene_lexer.specs.Bytes.{is_white}
-use Rattle.scene_lexer.specs.Spellings.{longest, is_gap, is_piece}
-use Rattle.scene_lexer.specs.Tokens.{tokens_from, tokens_of, piece_tokens, token_list, kind_of, front_of, joined, line_after, line_feeds, mark_length, IsFound, Ascend}
+use Rattle.scene_lexer.specs.Spellings.{longest, is_white_space, is_line_comment, is_block_comment, is_gap, is_piece}
+use Rattle.scene_lexer.specs.Tokens.{tokens_from, tokens_of, tokens_at, piece_tokens, token_list, kind_of, front_of, joined, line_after, mark_length, Ascend}
+use Rattle.scene_lexer.specs.Steps.{IsFound, found_tokens, line_feeds}
 use Rattle.scene_lexer.specs.declared.found.Found.{Found}
 use Rattle.scene_lexer.specs.declared.token.Place.{Place}
 use Rattle.scene_lexer.specs.declared.token.Token.{Token}
+use Rattle.scene_lexer.specs.declared.token.Kind.{Kind}
 use Rattle.scene_lexer.specs.declared.token.LexFault.{LexFault}
 use Rattle.scene_lexer.proofs.LongestLemmas.{longest-is, longest-le, longest-same}
 use Rattle.scene_lexer.proofs.PieceLemmas.{piece-white}
-use Rattle.scene_lexer.proofs.FoundLemmas.{gap-false-front}
-use Rattle.scene_lexer.proofs.TokensLemmas.{place_at, tokens-skip, tokens-piece, joined-gap, joined-token, joined-fault, feeds-cons}
+use Rattle.scene_lexer.proofs.TokensLemmas.{place_at, tokens-skip, tokens-piece, joined-gap, joined-more, joined-fault, feeds-cons}
 
 -- the tokens so far and those of the rest are the text's
 abbrev pub IsRead : ℕ → ℕ → ℕ → List Token → List ℕ → Type 0
@@ -100,23 +101,23 @@ front-le : (s : List ℕ) → length (front_of s) ≤ length s
 front-le s = rw (front-length s) (longest-le is_piece (length s) s)
 
 -- one white byte
-long-no_gap : (b m : ℕ) (s : List ℕ) → 1 < m → m ≤ suc (length s) → is_gap (take m (b ∷ s)) ≡ false
-unfolding is_gap
-long-no_gap b zero s low high = absurd (omega arith)
-long-no_gap b (suc zero) s low high = absurd (omega arith)
-long-no_gap b (suc (suc m)) [] low high = absurd (omega arith)
-long-no_gap b (suc (suc m)) (c ∷ s) low high = refl
+long-no_white : (b m : ℕ) (s : List ℕ) → 1 < m → m ≤ suc (length s) → is_white_space (take m (b ∷ s)) ≡ false
+unfolding is_white_space
+long-no_white b zero s low high = absurd (omega arith)
+long-no_white b (suc zero) s low high = absurd (omega arith)
+long-no_white b (suc (suc m)) [] low high = absurd (omega arith)
+long-no_white b (suc (suc m)) (c ∷ s) low high = refl
 
-longest-gap : (b : ℕ) (s : List ℕ) → is_white b ≡ true → longest is_gap (length (b ∷ s)) (b ∷ s) ≡ 1
-unfolding is_gap
-longest-gap b s h = longest-is is_gap (suc (length s)) 1 (b ∷ s) (omega arith) h (λ m low high. long-no_gap b m s low high) (omega arith)
+longest-white : (b : ℕ) (s : List ℕ) → is_white b ≡ true → longest is_white_space (length (b ∷ s)) (b ∷ s) ≡ 1
+unfolding is_white_space
+longest-white b s h = longest-is is_white_space (suc (length s)) 1 (b ∷ s) (omega arith) h (λ m low high. long-no_white b m s low high) (omega arith)
 
 front-white : (b : ℕ) (s : List ℕ) → is_white b ≡ true → front_of (b ∷ s) ≡ take 1 (b ∷ s)
 unfolding front_of
-front-white b s h = ap (λ n. take n (b ∷ s)) (longest-same is_piece is_gap (length (b ∷ s)) b s (λ t. piece-white b t h) ∙ longest-gap b s h)
+front-white b s h = ap (λ n. take n (b ∷ s)) (longest-same is_piece is_white_space (length (b ∷ s)) b s (λ t. piece-white b t h) ∙ longest-white b s h)
 
 gap_tokens : (place : Place) (b : ℕ) → is_white b ≡ true → piece_tokens place (b ∷ []) ≡ Ok []
-unfolding piece_tokens is_gap
+unfolding piece_tokens is_gap is_white_space
 gap_tokens place b h = rw h refl
 
 line-white : (line b : ℕ) → line + line_feeds (b ∷ []) ≡ line_after line b
@@ -152,27 +153,20 @@ no_line_feed line next b other is = is ∙ elim (cases_Bool (b == 10)) [
   | inr e ↦ ap (λ v. cond v (line + 1) line) (sym e)
 ]
 
--- one token
-found_tokens : (place : Place) (s : List ℕ) (found : Found) → IsFound place s found → piece_tokens place (front_of s) ≡ Ok (record { kind = found.kind; place = place; to = place.at + found.length } ∷ [])
-unfolding piece_tokens
-found_tokens place s found h =
-    ap (λ v. cond v (Ok []) (token_list place (place.at + length (front_of s)) (kind_of place (front_of s)))) h.no_gap
-    ∙ ap (token_list place (place.at + length (front_of s))) h.kind_is
-    ∙ ap (λ n. token_list place (place.at + n) (Ok found.kind)) (sym h.length_is)
-
+-- one piece
 pub found_within : (place : Place) (at : ℕ) (text : List ℕ) (found : Found) → at ≤ length text → IsFound place (drop at text) found → (at + found.length ≤ length text) × (found.lines ≤ found.length)
 found_within place at text found within h =
     let le = front-le (drop at text) in
     let count = count_by-le-length (λ b. b == 10) (front_of (drop at text)) in
     (omega (arith, h.length_is, length-drop at text), omega (arith, h.length_is, h.lines_are))
 
-pub token_read : (file at line : ℕ) (tokens : List Token) (text : List ℕ) (found : Found) → at ≤ length text → IsFound (place_at file at line) (drop at text) found →
-    IsRead file at line tokens text → IsRead file (at + found.length) (line + found.lines) (tokens ++ record { kind = found.kind; place = place_at file at line; to = at + found.length } ∷ []) text
-token_read file at line tokens text found within h read =
+pub piece_read : (file at line : ℕ) (tokens : List Token) (text : List ℕ) (found : Found) → at ≤ length text → IsFound (place_at file at line) (drop at text) found →
+    IsRead file at line tokens text → IsRead file (at + found.length) (line + found.lines) (tokens ++ found_tokens (place_at file at line) found) text
+piece_read file at line tokens text found within h read =
     let s = drop at text in
     let n = found.length in
     let place = place_at file at line in
-    let token : Token = record { kind = found.kind; place = place; to = at + n } in
+    let more = found_tokens place found in
     let front : front_of s ≡ take n s = front-is s ∙ ap (λ k. take k s) (sym h.length_is) in
     let feeds : line_feeds (take n s) ≡ found.lines = ap line_feeds (sym front) ∙ sym h.lines_are in
     let inside = found_within place at text found within h in
@@ -180,19 +174,12 @@ token_read file at line tokens text found within h read =
     sym (sym read
     ∙ ap (joined (Ok tokens)) (tokens-piece file at line n s h.some (omega (arith, length-drop at text, inside.0)) front)
     ∙ ap (λ f. joined (Ok tokens) (joined (piece_tokens place f) (tokens_from file 0 (at + n) (line + line_feeds (take n s)) (drop n s)))) (sym front)
-    ∙ ap (λ r. joined (Ok tokens) (joined r (tokens_from file 0 (at + n) (line + line_feeds (take n s)) (drop n s)))) (found_tokens place s found h)
-    ∙ ap (λ k. joined (Ok tokens) (joined (Ok (token ∷ [])) (tokens_from file 0 (at + n) (line + k) (drop n s)))) feeds
-    ∙ ap (λ t. joined (Ok tokens) (joined (Ok (token ∷ [])) (tokens_from file 0 (at + n) (line + found.lines) t))) (drop-drop n at text)
-    ∙ joined-token tokens token rest)
+    ∙ ap (λ r. joined (Ok tokens) (joined r (tokens_from file 0 (at + n) (line + line_feeds (take n s)) (drop n s)))) h.tokens_are
+    ∙ ap (λ k. joined (Ok tokens) (joined (Ok more) (tokens_from file 0 (at + n) (line + k) (drop n s)))) feeds
+    ∙ ap (λ t. joined (Ok tokens) (joined (Ok more) (tokens_from file 0 (at + n) (line + found.lines) t))) (drop-drop n at text)
+    ∙ joined-more tokens more rest)
 
 -- a fault
-fault_tokens : (place : Place) (s : List ℕ) (fault : LexFault) → is_white (slice_index s 0) ≡ false → kind_of place (front_of s) ≡ Err fault → piece_tokens place (front_of s) ≡ Err fault
-unfolding piece_tokens
-fault_tokens place s fault solid h =
-    let no_gap : is_gap (front_of s) ≡ false = ap is_gap (front-is s) ∙ gap-false-front s (length (front_of s)) solid in
-    ap (λ v. cond v (Ok []) (token_list place (place.at + length (front_of s)) (kind_of place (front_of s)))) no_gap
-    ∙ ap (token_list place (place.at + length (front_of s))) h
-
 tokens-fault : (file at line : ℕ) (tokens : List Token) (b : ℕ) (s : List ℕ) (fault : LexFault) → piece_tokens (place_at file at line) (front_of (b ∷ s)) ≡ Err fault →
     joined (Ok tokens) (tokens_from file 0 at line (b ∷ s)) ≡ Err fault
 unfolding tokens_from
@@ -200,15 +187,15 @@ tokens-fault file at line tokens b s fault h =
     let rest = tokens_from file (length (front_of (b ∷ s)) - 1) (at + 1) (line_after line b) s in
     ap (λ r. joined (Ok tokens) (joined r rest)) h ∙ joined-fault tokens fault rest
 
-pub fault_read : (file at line : ℕ) (tokens : List Token) (text : List ℕ) (fault : LexFault) → at < length text → is_white (slice_index text at) ≡ false →
-    kind_of (place_at file at line) (front_of (drop at text)) ≡ Err fault → IsRead file at line tokens text → tokens_of file text ≡ Err fault
-fault_read file at line tokens text fault below solid h read =
+pub fault_read : (file at line : ℕ) (tokens : List Token) (text : List ℕ) (fault : LexFault) → at < length text →
+    piece_tokens (place_at file at line) (front_of (drop at text)) ≡ Err fault → IsRead file at line tokens text → tokens_of file text ≡ Err fault
+fault_read file at line tokens text fault below h read =
     let b = slice_index text at in
     let s = drop (at + 1) text in
     let more = drop_more text at 0 below in
-    let here : kind_of (place_at file at line) (front_of (b ∷ s)) ≡ Err fault = ap (λ t. kind_of (place_at file at line) (front_of t)) (sym more) ∙ h in
+    let here : piece_tokens (place_at file at line) (front_of (b ∷ s)) ≡ Err fault = ap (λ t. piece_tokens (place_at file at line) (front_of t)) (sym more) ∙ h in
     sym read ∙ ap (λ t. joined (Ok tokens) (tokens_from file 0 at line t)) more
-    ∙ tokens-fault file at line tokens b s fault (fault_tokens (place_at file at line) (b ∷ s) fault solid here)
+    ∙ tokens-fault file at line tokens b s fault here
 
 -- the end
 pub end_read : (file at line : ℕ) (tokens : List Token) (text : List ℕ) → length text ≤ at → IsRead file at line tokens text → tokens_of file text ≡ Ok tokens
@@ -224,16 +211,25 @@ ascend_none at tokens empty = subst (Ascend at) (sym empty) (record {
   within = λ k d below. absurd (omega arith);
 })
 
-pub ascend_push : (at next : ℕ) (tokens : List Token) (token : Token) → Ascend at tokens → token.place.at ≡ at → token.to ≡ next → at < next → Ascend next (tokens ++ token ∷ [])
-ascend_push at next tokens token h from to below = record {
-  some = All-push (λ t. t.place.at < t.to) tokens token h.some (omega arith);
-  apart = all_pairs_push (λ a b. a.to ≤ b.place.at) tokens token h.apart (λ k d inside. omega (arith, h.within k d inside));
-  within = All-push (λ t. t.to ≤ next) tokens token (λ k d inside. omega (arith, h.within k d inside)) (omega arith);
-}
-
 pub ascend_more : (at next : ℕ) (tokens : List Token) → Ascend at tokens → at ≤ next → Ascend next tokens
 ascend_more at next tokens h below = record {
   some = h.some;
   apart = h.apart;
   within = λ k d inside. omega (arith, h.within k d inside);
 }
+
+ascend_push : (at next : ℕ) (tokens : List Token) (token : Token) → Ascend at tokens → token.place.at ≡ at → token.to ≡ next → at < next → Ascend next (tokens ++ token ∷ [])
+ascend_push at next tokens token h from to below = record {
+  some = All-push (λ t. t.place.at < t.to) tokens token h.some (omega arith);
+  apart = all_pairs_push (λ a b. a.to ≤ b.place.at) tokens token h.apart (λ k d inside. omega (arith, h.within k d inside));
+  within = All-push (λ t. t.to ≤ next) tokens token (λ k d inside. omega (arith, h.within k d inside)) (omega arith);
+}
+
+pub ascend_add : (at next : ℕ) (tokens : List Token) (place : Place) (kind : Option Kind) → Ascend at tokens → place.at ≡ at → at < next → Ascend next (tokens ++ tokens_at place next kind)
+ascend_add at next tokens place None h from below = subst (Ascend next) (sym (append-nil tokens)) (ascend_more at next tokens h (omega arith))
+ascend_add at next tokens place (Some kind) h from below =
+    ascend_push at next tokens (record { kind = kind; place = place; to = next }) h from refl below
+
+pub ok-then : {A E : Type 0} (r : Result A E) (P : Type 0) → is_ok r ≡ true → OnOk r P → P
+ok-then (Ok x) P e h = h
+ok-then (Err x) P e h = absurd (false≢true e)

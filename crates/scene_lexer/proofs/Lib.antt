@@ -1,6 +1,11 @@
+pub mod CommentLemmas
 pub mod FoundLemmas
 pub mod LexLemmas
 pub mod LongestLemmas
 pub mod NumberLemmas
+pub mod NumberLength
 pub mod PieceLemmas
+pub mod ScanLemmas
+pub mod SignLemmas
+pub mod TextLemmas
 pub mod TokensLemmas

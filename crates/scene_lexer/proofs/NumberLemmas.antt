@@ -1,5 +1,5 @@
 -- Digits and the sizes of the numbers that they spell.
-use Rattle.std.proofs.Common.{◌≡◌, ℕ, ◌+◌, ◌-◌, ◌*◌, ◌^◌, ◌<◌, ◌≤◌, min, true, false, cond, nat_lt, nat_le, List, ◌++◌, length, drop, refl, sym, ap, ◌∙◌, arith, inl, inr, get_or, unsigned_abs, Result, Ok, Err, ℤ}
+use Rattle.std.proofs.Common.{◌≡◌, ℕ, zero, suc, ◌+◌, ◌-◌, ◌*◌, ◌/◌, ◌^◌, ◌<◌, ◌≤◌, min, Bool, true, false, cond, ◌==◌, ◌||◌, nat_lt, nat_le, List, [], ◌∷◌, ◌++◌, length, take, drop, refl, sym, ap, ◌∙◌, subst, arith, inl, inr, ◌⊎◌, ◌↔◌, get_or, unsigned_abs, Result, Ok, Err, Option, Some, None, SomeIff, ℤ, pos}
 use Rattle.std.specs.List.{list_all}
 use Rattle.std.proofs.lemmas.Bool.{cases_lt}
 use Rattle.std.proofs.lemmas.Bool.Decides.{nat_tests}
@@ -8,8 +8,9 @@ use Rattle.std.proofs.lemmas.List.Sums.{prefix_len-le-length, AllPass-from_list_
 use Rattle.std.proofs.lemmas.Nat.{pow-add}
 use Rattle.std.proofs.Math.Nat.{pow-le-pow_right, one-le-pow, mul-le-mul_left, mul-le-mul_right}
 use Rattle.scene_lexer.specs.Bytes.{is_digit}
-use Rattle.scene_lexer.specs.Spellings.{digit_count}
-use Rattle.scene_lexer.specs.Tokens.{decimal_from, whole_digits, fraction_digits, number_of, scaled}
+use Rattle.scene_lexer.specs.Spellings.{digit_count, after_digits, fraction_length}
+use Rattle.scene_lexer.specs.Tokens.{decimal_from, whole_digits, fraction_digits, exponent_part, exponent_size, is_minus_first, size_up, size_down, power_up, power_down, number_of, scaled}
+use Rattle.scene_lexer.specs.Steps.{IsScalable}
 use Rattle.fix_math.specs.Numbers.{IsInRange}
 use Rattle.scene_lexer.specs.declared.token.Place.{Place}
 use Rattle.scene_lexer.specs.declared.token.Kind.{Kind}
@@ -45,49 +46,166 @@ digit_at s i all below = bounds (get_or s i 0) (AllPass-from_list_all is_digit s
     bounds : (b : ℕ) → is_digit b ≡ true → (48 ≤ b) × (b ≤ 57)
     bounds b h = grind (arith, nat_tests)
 
-abbrev number_by : Place → List ℕ → List ℕ → Result Kind LexFault
-number_by place w f =
-    cond (nat_lt 30 (length (w ++ f))) (Err (NumberRange place))
-    (cond (nat_lt (unsigned_abs (scaled (decimal_from 0 (w ++ f)) 0 (length f))) (2 ^ 47)) (Ok (Number (scaled (decimal_from 0 (w ++ f)) 0 (length f)))) (Err (NumberRange place)))
-
-number_of-by : (place : Place) (s w f : List ℕ) → w ≡ whole_digits s → f ≡ fraction_digits s → number_of place s ≡ number_by place w f
-unfolding number_of
-number_of-by place s w f p q = sym (ap (λ v. number_by place v f) p ∙ ap (λ v. number_by place (whole_digits s) v) q)
-
--- too many digits
-pub number_of-long : (place : Place) (s w f : List ℕ) → w ≡ whole_digits s → f ≡ fraction_digits s → 30 < length w + length f → number_of place s ≡ Err (NumberRange place)
-number_of-long place s w f p q long =
-    let e : nat_lt 30 (length (w ++ f)) ≡ true = less 30 (length (w ++ f)) (omega (arith, length-append w f)) in
-    number_of-by place s w f p q ∙ rw e refl
-  where
-    less : (m n : ℕ) → m < n → nat_lt m n ≡ true
-    less m n h = grind (arith, nat_tests)
-
 not_less : (m n : ℕ) → n ≤ m → nat_lt m n ≡ false
 not_less m n h = grind (arith, nat_tests)
 
 less : (m n : ℕ) → m < n → nat_lt m n ≡ true
 less m n h = grind (arith, nat_tests)
 
-number_of-short : (place : Place) (s w f : List ℕ) → w ≡ whole_digits s → f ≡ fraction_digits s → length w + length f ≤ 30 →
-    number_of place s ≡ (let raw = scaled (decimal_from (decimal_from 0 w) f) 0 (length f) in let over : Result Kind LexFault = Err (NumberRange place) in cond (nat_lt (unsigned_abs raw) (2 ^ 47)) (Ok (Number raw)) over)
-number_of-short place s w f p q short =
-    let e : nat_lt 30 (length (w ++ f)) ≡ false = not_less 30 (length (w ++ f)) (omega (arith, length-append w f)) in
-    let one : decimal_from 0 (w ++ f) ≡ decimal_from (decimal_from 0 w) f = fold-append (λ m b. m * 10 + (b - 48)) 0 w f in
-    number_of-by place s w f p q ∙ rw (e, one) refl
+at_most : (m n : ℕ) → m ≤ n → nat_le m n ≡ true
+at_most m n h = grind (arith, nat_tests)
 
--- a raw number in range, and one that isn't
-pub number_of-in_range : (place : Place) (s w f : List ℕ) (units : ℕ) (raw : ℤ) → w ≡ whole_digits s → f ≡ fraction_digits s → length w + length f ≤ 30 →
-    units ≡ decimal_from (decimal_from 0 w) f → IsInRange (scaled units 0 (length f)) → scaled units 0 (length f) ≡ raw → number_of place s ≡ Ok (Number raw)
-number_of-in_range place s w f units raw p q short is within value =
-    let e = less (unsigned_abs (scaled units 0 (length f))) (2 ^ 47) within in
-    number_of-short place s w f p q short ∙ rw (← is, e) (ap (λ v. let r : Result Kind LexFault = Ok (Number v) in r) value)
+above : (m n : ℕ) → n < m → nat_le m n ≡ false
+above m n h = grind (arith, nat_tests)
 
-pub number_of-over : (place : Place) (s w f : List ℕ) (units : ℕ) → w ≡ whole_digits s → f ≡ fraction_digits s → length w + length f ≤ 30 →
-    units ≡ decimal_from (decimal_from 0 w) f → ¬ IsInRange (scaled units 0 (length f)) → number_of place s ≡ Err (NumberRange place)
-number_of-over place s w f units p q short is over =
-    let e = not_less (unsigned_abs (scaled units 0 (length f))) (2 ^ 47) (elim (cases_lt (unsigned_abs (scaled units 0 (length f))) (2 ^ 47)) [ inl h ↦ absurd (over h) | inr h ↦ h ]) in
-    number_of-short place s w f p q short ∙ rw (← is, e) refl
+abbrev out_of_range : ℕ → ℕ → ℕ → ℤ → Bool
+out_of_range count up down raw =
+    nat_lt 30 count || (nat_lt 30 (up - down) || (nat_lt 30 (down - up) || nat_le (2 ^ 47) (unsigned_abs raw)))
+
+abbrev number_by : Place → ℕ → ℕ → ℕ → ℕ → Result Kind LexFault
+number_by place count n up down =
+    let over : Result Kind LexFault = Err (NumberRange place) in
+    cond (out_of_range count up down (scaled n up down)) over (Ok (Number (scaled n up down)))
+
+-- a number by its parts
+number_of-by : (place : Place) (s : List ℕ) (count n up down : ℕ) → length (whole_digits s ++ fraction_digits s) ≡ count → decimal_from 0 (whole_digits s ++ fraction_digits s) ≡ n →
+    power_up s ≡ up → power_down s ≡ down → number_of place s ≡ number_by place count n up down
+unfolding number_of
+number_of-by place s count n up down p q u d =
+    ap (λ v. number_by place v (decimal_from 0 (whole_digits s ++ fraction_digits s)) (power_up s) (power_down s)) p
+    ∙ ap (λ v. number_by place count v (power_up s) (power_down s)) q
+    ∙ ap (λ v. number_by place count n v (power_down s)) u
+    ∙ ap (λ v. number_by place count n up v) d
+
+number_by-long : (place : Place) (count n up down : ℕ) → 30 < count → number_by place count n up down ≡ Err (NumberRange place)
+number_by-long place count n up down long = rw (less 30 count long) refl
+
+number_by-scalable : (place : Place) (count n up down : ℕ) → count ≤ 30 → IsScalable n up down → number_by place count n up down ≡ Ok (Number (scaled n up down))
+number_by-scalable place count n up down short h =
+    rw (not_less 30 count short, not_less 30 (up - down) h.above, not_less 30 (down - up) h.below, above (2 ^ 47) (unsigned_abs (scaled n up down)) h.within) refl
+
+number_by-over : (place : Place) (count n up down : ℕ) → count ≤ 30 → ¬ IsScalable n up down → number_by place count n up down ≡ Err (NumberRange place)
+number_by-over place count n up down short over =
+    let raw = scaled n up down in
+    rw (not_less 30 count short) (elim (cases_lt 30 (up - down)) [
+      | inl h ↦ rw (less 30 (up - down) h) refl
+      | inr up_ok ↦ rw (not_less 30 (up - down) up_ok) (elim (cases_lt 30 (down - up)) [
+        | inl h ↦ rw (less 30 (down - up) h) refl
+        | inr down_ok ↦ rw (not_less 30 (down - up) down_ok) (elim (cases_lt (unsigned_abs raw) (2 ^ 47)) [
+          | inl h ↦ absurd (over (record { above = up_ok; below = down_ok; within = h }))
+          | inr h ↦ rw (at_most (2 ^ 47) (unsigned_abs raw) h) refl
+        ])
+      ])
+    ])
+
+-- an exponent of 100 or more is out of range, whatever its size
+cap_up : (n u e f : ℕ) → f ≤ 30 → (u ≡ 0) ⊎ (e ≡ 0) → IsScalable n (min 100 u) (min 100 e + f) → (min 100 u ≡ u) × (min 100 e ≡ e)
+cap_up n u e f few one h = elim one [
+  | inl none ↦ (omega arith, omega (arith, h.below))
+  | inr none ↦ (omega (arith, h.above), omega arith)
+]
+
+cap_same : (n u e f : ℕ) → f ≤ 30 → (u ≡ 0) ⊎ (e ≡ 0) → IsScalable n u (e + f) → (min 100 u ≡ u) × (min 100 e ≡ e)
+cap_same n u e f few one h = elim one [
+  | inl none ↦ (omega arith, omega (arith, h.below))
+  | inr none ↦ (omega (arith, h.above), omega arith)
+]
+
+one_size : (part : List ℕ) → (size_up part ≡ 0) ⊎ (size_down part ≡ 0)
+one_size part = by (is_minus_first part) (exponent_size part)
+  where
+    by : (v : Bool) (n : ℕ) → (cond v 0 n ≡ 0) ⊎ (cond v n 0 ≡ 0)
+    by true n = inl refl
+    by false n = inr refl
+
+-- what the code has read of a number
+pub record IsParts (s : List ℕ) (w f : List ℕ) (n : ℕ) : Type 0 where
+  pub whole : w ≡ whole_digits s
+  pub fraction : f ≡ fraction_digits s
+  pub units : n ≡ decimal_from (decimal_from 0 w) f
+
+parts-by : (place : Place) (s w f : List ℕ) (n : ℕ) → IsParts s w f n → number_of place s ≡ number_by place (length w + length f) n (power_up s) (power_down s)
+parts-by place s w f n h =
+    number_of-by place s (length w + length f) n (power_up s) (power_down s)
+    (ap (λ v. length (v ++ fraction_digits s)) (sym h.whole) ∙ ap (λ v. length (w ++ v)) (sym h.fraction) ∙ length-append w f)
+    (ap (λ v. decimal_from 0 (v ++ fraction_digits s)) (sym h.whole) ∙ ap (λ v. decimal_from 0 (w ++ v)) (sym h.fraction)
+    ∙ fold-append (λ m b. m * 10 + (b - 48)) 0 w f ∙ sym h.units)
+    refl refl
+
+pub number_of-long : (place : Place) (s w f : List ℕ) → w ≡ whole_digits s → f ≡ fraction_digits s → 30 < length w + length f → number_of place s ≡ Err (NumberRange place)
+number_of-long place s w f p q long =
+    let n = decimal_from (decimal_from 0 w) f in
+    parts-by place s w f n (record { whole = p; fraction = q; units = refl }) ∙ number_by-long place (length w + length f) n (power_up s) (power_down s) long
+
+pub number_of-scalable : (place : Place) (s w f : List ℕ) (n up down : ℕ) (raw : ℤ) → IsParts s w f n → length w + length f ≤ 30 →
+    up ≡ min 100 (size_up (exponent_part s)) → down ≡ min 100 (size_down (exponent_part s)) → IsScalable n up (down + length f) → raw ≡ scaled n up (down + length f) → number_of place s ≡ Ok (Number raw)
+number_of-scalable place s w f n up down raw h short u d can is =
+    let part = exponent_part s in
+    let can' : IsScalable n (min 100 (size_up part)) (min 100 (size_down part) + length f) =
+    subst (λ v. IsScalable n v (min 100 (size_down part) + length f)) u (subst (λ v. IsScalable n up (v + length f)) d can) in
+    let same = cap_up n (size_up part) (size_down part) (length f) (omega arith) (one_size part) can' in
+    let exact_up : up ≡ power_up s = u ∙ same.0 in
+    let exact_down : down + length f ≡ power_down s = ap (λ v. v + length f) (d ∙ same.1) ∙ ap (λ v. size_down part + length v) h.fraction in
+    let exact : IsScalable n (power_up s) (power_down s) = subst (λ v. IsScalable n v (power_down s)) exact_up (subst (λ v. IsScalable n up v) exact_down can) in
+    parts-by place s w f n h ∙ number_by-scalable place (length w + length f) n (power_up s) (power_down s) short exact
+    ∙ ap (λ v. let r : Result Kind LexFault = Ok (Number v) in r) (sym (is ∙ ap (λ v. scaled n v (down + length f)) exact_up ∙ ap (λ v. scaled n (power_up s) v) exact_down))
+
+pub number_of-over : (place : Place) (s w f : List ℕ) (n up down : ℕ) → IsParts s w f n → length w + length f ≤ 30 →
+    up ≡ min 100 (size_up (exponent_part s)) → down ≡ min 100 (size_down (exponent_part s)) → ¬ IsScalable n up (down + length f) → number_of place s ≡ Err (NumberRange place)
+number_of-over place s w f n up down h short u d over =
+    let part = exponent_part s in
+    parts-by place s w f n h ∙ number_by-over place (length w + length f) n (power_up s) (power_down s) short (λ can.
+    let can' : IsScalable n (size_up part) (size_down part + length f) = subst (λ v. IsScalable n (size_up part) (size_down part + length v)) (sym h.fraction) can in
+    let same = cap_same n (size_up part) (size_down part) (length f) (omega arith) (one_size part) can' in
+    over (subst (λ v. IsScalable n v (down + length f)) (sym (u ∙ same.0)) (subst (λ v. IsScalable n (size_up part) (v + length f)) (sym (d ∙ same.1)) can')))
+
+-- scaling up, and down
+pub scaled-up : (n up down : ℕ) → down < up → scaled n up down ≡ pos (n * 10 ^ (up - down) * 65536)
+scaled-up n up down h =
+    let e : down - up ≡ 0 = omega arith in
+    rw e (ap pos (half (n * 10 ^ (up - down) * 65536)))
+  where
+    half : (m : ℕ) → (m + m + 1) / (1 + 1) ≡ m
+    half m = omega arith
+
+pub scaled-down : (n up down : ℕ) → up ≤ down → scaled n up down ≡ scaled n 0 (down - up)
+scaled-down n up down h =
+    let e : up - down ≡ 0 = omega arith in
+    let z : 0 - (down - up) ≡ 0 = omega arith in
+    let d : (down - up) - 0 ≡ down - up = omega arith in
+    rw (e, z, d) refl
+
+pub scalable-up : (n up down : ℕ) → down < up → up - down ≤ 30 → (n * 10 ^ (up - down) * 65536 < 2 ^ 47) ↔ IsScalable n up down
+scalable-up n up down h ok = (λ small. record { above = ok; below = omega arith; within = subst IsInRange (sym (scaled-up n up down h)) small }, λ can. subst IsInRange (scaled-up n up down h) can.within)
+
+pub scalable-down : (n up down : ℕ) → up ≤ down → down - up ≤ 30 → IsInRange (scaled n 0 (down - up)) ↔ IsScalable n up down
+scalable-down n up down h ok = (λ small. record { above = omega arith; below = ok; within = subst IsInRange (sym (scaled-down n up down h)) small }, λ can. subst IsInRange (scaled-down n up down h) can.within)
+
+pub SomeIff-map : {T : Type 0} (r : Option T) (P Q : Type 0) (v w : T) → P ↔ Q → v ≡ w → SomeIff r P v → SomeIff r Q w
+SomeIff-map None P Q v w iff same h = λ q. h (iff.1 q)
+SomeIff-map (Some x) P Q v w iff same h = (iff.0 h.0, h.1 ∙ same)
+
+-- a product of a power of ten from the tenth on is too large
+pub up_large : (n k : ℕ) → 0 < n → 9 < k → 2 ^ 47 ≤ n * 10 ^ k * 65536
+up_large n k some far =
+    let ten : 10 ^ 10 ≤ 10 ^ k = ten_pow-le 10 k (omega arith) in
+    let one : 1 * 10 ^ k ≤ n * 10 ^ k = mul-le-mul_right (10 ^ k) (let le : 1 ≤ n = omega arith in le) in
+    omega arith
+
+pub units_large : (n k : ℕ) → 2 ^ 31 ≤ n → 2 ^ 47 ≤ n * 10 ^ k * 65536
+units_large n k large =
+    let one : n * 1 ≤ n * 10 ^ k = mul-le-mul_left n (let le : 1 ≤ 10 ^ k = omega (arith, ten_pow-pos k) in le) in
+    omega arith
+
+pub up_fits : (n k : ℕ) → n < 2 ^ 31 → k ≤ 9 → n * 10 ^ k ≤ 2 ^ 31 * 10 ^ 9
+up_fits n k small near =
+    let left : n * 10 ^ k ≤ 2 ^ 31 * 10 ^ k = mul-le-mul_right (10 ^ k) (let le : n ≤ 2 ^ 31 = omega arith in le) in
+    let right : 2 ^ 31 * 10 ^ k ≤ 2 ^ 31 * 10 ^ 9 = mul-le-mul_left (2 ^ 31) (ten_pow-le k 9 near) in
+    omega arith
+
+-- one more digit of an exponent
+pub size_more : (v m d : ℕ) → v ≡ min 100 m → min 100 (v * 10 + d) ≡ min 100 (m * 10 + d)
+size_more v m d h = omega arith
 
 -- sizes of the digits' numbers
 pub room_first : (w f : ℕ) → w + f ≤ 30 → (0 + 1) * 10 ^ w ≤ 10 ^ 30
@@ -102,6 +220,14 @@ room_second n w f h small =
 pub rest_after : (s : List ℕ) (n : ℕ) → drop (min (length s) n) s ≡ drop n s
 rest_after s n = let e : min (length s) n ≡ min n (length s) = omega arith in rw e (drop_min n s)
 
--- the digits behind the dot
-pub fraction-is : (s f r : List ℕ) (m w : ℕ) → f ≡ whole_digits r → r ≡ drop m s → m ≡ min (length s) (w + 1) → w ≡ digit_count s → f ≡ fraction_digits s
-fraction-is s f r m w p q e d = p ∙ ap whole_digits (q ∙ ap (λ k. drop k s) e ∙ rest_after s (w + 1) ∙ ap (λ k. drop (k + 1) s) d)
+-- the digits behind the dot, and the exponent behind its mark
+pub fraction-is : (s b f : List ℕ) (w : ℕ) → b ≡ drop w s → w ≡ digit_count s → f ≡ drop 1 (take (fraction_length b) b) → f ≡ fraction_digits s
+fraction-is s b f w b_is w_is f_is =
+    let behind : b ≡ after_digits s = b_is ∙ ap (λ k. drop k s) w_is in
+    f_is ∙ ap (λ r. drop 1 (take (fraction_length r) r)) behind
+
+pub part-is : (s b e p : List ℕ) (w f m : ℕ) → b ≡ drop w s → w ≡ digit_count s → e ≡ drop f b → f ≡ fraction_length b → p ≡ drop m e → m ≡ min (length e) 1 → p ≡ exponent_part s
+part-is s b e p w f m b_is w_is e_is f_is p_is m_is =
+    let behind : b ≡ after_digits s = b_is ∙ ap (λ k. drop k s) w_is in
+    let end : e ≡ drop (fraction_length (after_digits s)) (after_digits s) = e_is ∙ ap (λ k. drop k b) f_is ∙ ap (λ r. drop (fraction_length r) r) behind in
+    p_is ∙ ap (λ k. drop k e) m_is ∙ rest_after e 1 ∙ ap (drop 1) end

@@ -4,15 +4,16 @@ use Rattle.std.specs.List.{prefix_len}
 use Rattle.std.proofs.lemmas.Bool.{false≢true, cases_Bool, eqb-true}
 use Rattle.std.proofs.lemmas.List.{append_assoc, length-take-le}
 use Rattle.std.proofs.lemmas.List.Sums.{sum_by-cons}
-use Rattle.scene_lexer.specs.Bytes.{is_letter, is_word}
-use Rattle.scene_lexer.specs.Spellings.{is_sign_byte, is_sign, is_number, is_fraction}
-use Rattle.scene_lexer.specs.Tokens.{tokens_from, piece_tokens, kind_of, number_of, sign_code, front_of, joined, line_after, line_feeds}
+use Rattle.scene_lexer.specs.Bytes.{is_word}
+use Rattle.scene_lexer.specs.Spellings.{longest, is_gap, is_piece, is_sign, is_number, is_number_end, is_fraction, is_text, is_open_text, is_open_comment}
+use Rattle.scene_lexer.specs.Tokens.{tokens_from, tokens_of, piece_tokens, token_list, kind_of, number_of, word_of, sign_code, unescaped, within_quotes, front_of, joined, line_after}
+use Rattle.scene_lexer.specs.Steps.{line_feeds}
 use Rattle.scene_lexer.specs.declared.token.Place.{Place}
 use Rattle.scene_lexer.specs.declared.token.Token.{Token}
 use Rattle.scene_lexer.specs.declared.token.Kind.{Kind}
-use Rattle.scene_lexer.specs.declared.token.Kind.TheVariants.{Word, Sign}
+use Rattle.scene_lexer.specs.declared.token.Kind.TheVariants.{Word, Text, Sign}
 use Rattle.scene_lexer.specs.declared.token.LexFault.{LexFault}
-use Rattle.scene_lexer.specs.declared.token.LexFault.TheVariants.{BadByte, LongName}
+use Rattle.scene_lexer.specs.declared.token.LexFault.TheVariants.{BadByte, OpenComment, OpenString, LongName}
 
 abbrev pub place_at : ℕ → ℕ → ℕ → Place
 place_at file at line = record { file = file; at = at; line = line }
@@ -53,10 +54,10 @@ unfolding joined
 joined-gap tokens (Ok more) = refl
 joined-gap tokens (Err fault) = refl
 
-pub joined-token : (tokens : List Token) (token : Token) (rest : Result (List Token) LexFault) → joined (Ok tokens) (joined (Ok (token ∷ [])) rest) ≡ joined (Ok (tokens ++ token ∷ [])) rest
+pub joined-more : (tokens more : List Token) (rest : Result (List Token) LexFault) → joined (Ok tokens) (joined (Ok more) rest) ≡ joined (Ok (tokens ++ more)) rest
 unfolding joined
-joined-token tokens token (Ok more) = ap (λ v. let r : Result (List Token) LexFault = Ok v in r) (sym (append_assoc tokens (token ∷ []) more))
-joined-token tokens token (Err fault) = refl
+joined-more tokens more (Ok rest) = ap (λ v. let r : Result (List Token) LexFault = Ok v in r) (sym (append_assoc tokens more rest))
+joined-more tokens more (Err fault) = refl
 
 pub joined-fault : (tokens : List Token) (fault : LexFault) (rest : Result (List Token) LexFault) → joined (Ok tokens) (joined (Err fault) rest) ≡ Err fault
 unfolding joined
@@ -64,7 +65,7 @@ joined-fault tokens fault (Ok more) = refl
 joined-fault tokens fault (Err more) = refl
 
 -- what the spellings mean
-pub kind-word : (place : Place) (s : List ℕ) → is_word s ≡ true → kind_of place s ≡ (let long : Result Kind LexFault = Err (LongName place) in cond (nat_le (length s) 40) (Ok (Word s)) long)
+pub kind-word : (place : Place) (s : List ℕ) → is_word s ≡ true → kind_of place s ≡ word_of place s
 unfolding kind_of
 kind-word place s h = rw h refl
 
@@ -72,13 +73,33 @@ pub kind-number : (place : Place) (s : List ℕ) → is_word s ≡ false → is_
 unfolding kind_of
 kind-number place s word h = rw (word, h) refl
 
-pub kind-sign : (place : Place) (b : ℕ) → is_letter b ≡ false → is_number (b ∷ []) ≡ false → is_sign_byte b ≡ true → kind_of place (b ∷ []) ≡ Ok (Sign b)
-unfolding kind_of is_sign sign_code
-kind-sign place b letter number h = rw (letter, number, h) refl
+pub kind-text : (place : Place) (s : List ℕ) → is_word s ≡ false → is_number s ≡ false → is_text s ≡ true → kind_of place s ≡ Ok (Text (unescaped 0 (within_quotes s)))
+unfolding kind_of
+kind-text place s word number h = rw (word, number, h) refl
+
+pub kind-sign : (place : Place) (s : List ℕ) → is_word s ≡ false → is_number s ≡ false → is_text s ≡ false → is_sign s ≡ true → kind_of place s ≡ Ok (Sign (sign_code s))
+unfolding kind_of
+kind-sign place s word number text h = rw (word, number, text, h) refl
+
+pub kind-open_comment : (place : Place) (s : List ℕ) → is_word s ≡ false → is_number s ≡ false → is_text s ≡ false → is_sign s ≡ false → is_open_comment s ≡ true → kind_of place s ≡ Err (OpenComment place)
+unfolding kind_of
+kind-open_comment place s word number text sign h = rw (word, number, text, sign, h) refl
+
+pub kind-open_text : (place : Place) (s : List ℕ) → is_word s ≡ false → is_number s ≡ false → is_text s ≡ false → is_sign s ≡ false → is_open_comment s ≡ false → is_open_text s ≡ true → kind_of place s ≡ Err (OpenString place)
+unfolding kind_of
+kind-open_text place s word number text sign comment h = rw (word, number, text, sign, comment, h) refl
 
 pub kind-bad : (place : Place) → kind_of place [] ≡ Err (BadByte place)
-unfolding kind_of is_number is_fraction is_sign
+unfolding kind_of is_number is_fraction is_number_end is_text is_sign is_open_comment is_open_text
 kind-bad place = refl
+
+pub word-short : (place : Place) (s : List ℕ) → nat_le (length s) 40 ≡ true → word_of place s ≡ Ok (Word s)
+unfolding word_of
+word-short place s h = rw h refl
+
+pub word-long : (place : Place) (s : List ℕ) → nat_le (length s) 40 ≡ false → word_of place s ≡ Err (LongName place)
+unfolding word_of
+word-long place s h = rw h refl
 
 -- bytes that no line ends with
 pub no_feeds-run : (p : ℕ → Bool) → p 10 ≡ false → (s : List ℕ) → line_feeds (take (prefix_len p s) s) ≡ 0

@@ -1,5 +1,5 @@
 // The classes of bytes that words, numbers and gaps are made of.
-ghost use Rattle.std.specs.Prelude.{◌≡◌};
+ghost use Rattle.std.specs.Prelude.{◌≡◌, ◌==◌, if◌then◌else◌};
 ghost use Rattle.std.specs.List.{list_all};
 ghost use Rattle.scene_lexer.specs.Bytes.{is_white, is_digit, is_letter, is_word_byte, is_word};
 
@@ -8,6 +8,14 @@ pub fn is_white(byte: u8) -> bool
     ensures { result ≡ is_white byte }
 {
     byte == b' ' || (9 <= byte && byte <= 13)
+}
+
+/// 1 for a line feed, 0 for another byte.
+#[inline]
+pub fn line_end(byte: u8) -> u32
+    ensures { result ≡ (if byte == 10 then 1 else 0) }
+{
+    if byte == b'\n' { 1 } else { 0 }
 }
 
 #[inline]

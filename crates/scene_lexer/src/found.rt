@@ -1,10 +1,11 @@
-// The token that a text begins with.
+// What a text begins with.
 use crate::Kind;
 
-/// What a text begins with: a token's kind, how many bytes spell it, and how many of them are line feeds.
+/// What a text begins with: a token's kind, or none for a gap; how many bytes spell it; and how many of
+/// them are line feeds.
 #[derive(Drop)]
 pub struct Found {
-    pub kind: Kind,
+    pub kind: Option<Kind>,
     pub length: usize,
     pub lines: u32,
 }

@@ -1,13 +1,13 @@
 // The tokens of a text.
-ghost use Rattle.std.specs.Prelude.{◌≡◌, ◌≢◌, ◌≤◌, ◌<◌, ◌^◌, length, IfOk, IfErr, All, AllPairs, Ok, Err};
-ghost use Rattle.scene_lexer.specs.Tokens.{tokens_of, mark_length, Ascend};
+ghost use Rattle.std.specs.Prelude.{◌≡◌, ◌≢◌, ◌≤◌, ◌<◌, ◌^◌, length, ◌++◌, IfOk, IfErr, OnOk, Ok, Err};
+ghost use Rattle.scene_lexer.specs.Tokens.{tokens_of, tokens_at, mark_length, Ascend};
 ghost use Rattle.scene_lexer.specs.declared.token.LexFault.TheVariants.{NoMemory};
 
 use crate::bytes::is_white;
-use crate::read::read_token;
+use crate::read::read_piece;
 use crate::scan::rest_of;
-use crate::{LexFault, Place, Token};
-use std::alloc::Global;
+use crate::{Kind, LexFault, Place, Token};
+use std::alloc::{AllocError, Global};
 
 /// How long the UTF-8 mark is that the text begins with, or 0.
 fn mark_length(text: &[u8]) -> usize
@@ -18,6 +18,21 @@ fn mark_length(text: &[u8]) -> usize
     } else {
         0
     }
+}
+
+/// Adds the token of this kind, where there is one.
+fn add_token(
+    tokens: &mut Vec<Token>,
+    kind: Option<Kind>,
+    place: Place,
+    to: u32,
+) -> Result<(), AllocError>
+    ensures { OnOk result (tokens.new.items ≡ tokens.old.items ++ tokens_at place to kind) }
+{
+    if let Some(kind) = kind {
+        tokens.push(Token { kind, place, to })?;
+    }
+    Ok(())
 }
 
 /// The tokens of the text with this number, or the first fault by place.
@@ -45,16 +60,11 @@ pub fn lex(alloc: Global, file: u32, text: &[u8]) -> Result<Vec<Token>, LexFault
             at: at as u32,
             line,
         };
-        match read_token(rest_of(text, at), place) {
+        match read_piece(alloc, rest_of(text, at), place) {
             Ok(found) => {
                 at += found.length;
                 line += found.lines;
-                let token = Token {
-                    kind: found.kind,
-                    place,
-                    to: at as u32,
-                };
-                if tokens.push(token).is_err() {
+                if add_token(&mut tokens, found.kind, place, at as u32).is_err() {
                     return Err(LexFault::NoMemory);
                 }
             }

@@ -2,12 +2,14 @@
 #![tactic(auto)]
 
 mod bytes;
+mod comment;
 mod found;
 mod lexer;
 mod name;
 mod number;
 mod read;
 mod scan;
+mod text;
 mod token;
 
 pub use lexer::lex;

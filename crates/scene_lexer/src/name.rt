@@ -13,7 +13,7 @@ const LONGEST: usize = 40;
 #[derive(Drop)]
 pub struct Name {
     buffer: [u8; 40],
-    len: usize,
+    len: u8,
 }
 
 impl Model for Name {
@@ -38,7 +38,7 @@ impl Name {
         buffer[..bytes.len()].copy_from_slice(bytes);
         Some(Name {
             buffer,
-            len: bytes.len(),
+            len: bytes.len() as u8,
         })
     }
 
@@ -47,6 +47,16 @@ impl Name {
     pub fn bytes(&self) -> &[u8]
         ensures { result.now ≡ self.now }
     {
-        &self.buffer[..self.len]
+        &self.buffer[..self.len as usize]
+    }
+
+    /// The same word again. It takes no memory.
+    pub fn copy(&self) -> Name
+        ensures { result ≡ self.now }
+    {
+        Name {
+            buffer: self.buffer,
+            len: self.len,
+        }
     }
 }

@@ -1,14 +1,20 @@
-// The token at the start of a text, by its first byte.
-ghost use Rattle.std.specs.Prelude.{◌≡◌, ◌<◌, ◌≤◌, length, slice_index, IsTrue, IsFalse, IfOk, IfErr};
+// The comment or token at the start of a text, by its first byte.
+ghost use Rattle.std.specs.Prelude.{◌≡◌, ◌≢◌, ◌<◌, ◌≤◌, ◌^◌, length, slice_index, IsTrue, IsFalse};
+ghost use Rattle.std.specs.Prelude.{IfOk, IfErr};
 ghost use Rattle.scene_lexer.specs.Bytes.{is_letter, is_white};
 ghost use Rattle.scene_lexer.specs.Spellings.{is_number, is_sign_byte, longest};
-ghost use Rattle.scene_lexer.specs.Tokens.{kind_of, front_of, IsFound};
+ghost use Rattle.scene_lexer.specs.Spellings.{opens_line_comment, opens_comment};
+ghost use Rattle.scene_lexer.specs.Tokens.{piece_tokens, front_of};
+ghost use Rattle.scene_lexer.specs.Steps.{IsFound, two_byte_sign_of};
 
 use crate::bytes::is_letter;
+use crate::comment::{read_comment, read_line_comment};
 use crate::found::Found;
 use crate::number::{number_length, number_of};
 use crate::scan::word_length;
+use crate::text::read_text;
 use crate::{Kind, LexFault, Name, Place};
+use std::alloc::Global;
 
 fn is_sign_byte(byte: u8) -> bool
     ensures { result ≡ is_sign_byte byte }
@@ -19,12 +25,12 @@ fn is_sign_byte(byte: u8) -> bool
 fn read_word(text: &[u8], place: Place) -> Result<Found, LexFault>
     requires letter { IsTrue (is_letter (slice_index text.now 0)) }
     ensures found { IfOk result (IsFound place text.now) }
-    ensures fault { IfErr result (λ f. kind_of place (front_of text.now) ≡ Err f) }
+    ensures fault { IfErr result (λ f. piece_tokens place (front_of text.now) ≡ Err f) }
 {
     let length = word_length(text);
     match Name::new(&text[..length]) {
         Some(name) => Ok(Found {
-            kind: Kind::Word(name),
+            kind: Some(Kind::Word(name)),
             length,
             lines: 0,
         }),
@@ -37,11 +43,11 @@ fn read_number(text: &[u8], bytes: usize, place: Place) -> Result<Found, LexFaul
     requires longest { bytes ≡ longest is_number (length text.now) text.now }
     requires some { 0 < bytes }
     ensures found { IfOk result (IsFound place text.now) }
-    ensures fault { IfErr result (λ f. kind_of place (front_of text.now) ≡ Err f) }
+    ensures fault { IfErr result (λ f. piece_tokens place (front_of text.now) ≡ Err f) }
 {
     match number_of(&text[..bytes], place) {
         Ok(kind) => Ok(Found {
-            kind,
+            kind: Some(kind),
             length: bytes,
             lines: 0,
         }),
@@ -49,18 +55,40 @@ fn read_number(text: &[u8], bytes: usize, place: Place) -> Result<Found, LexFaul
     }
 }
 
+/// The code of the sign of two bytes that the text begins with.
+fn two_byte_sign(text: &[u8]) -> Option<u8>
+    ensures { result ≡ two_byte_sign_of text.now }
+{
+    match text {
+        [b'<', b'=', ..] => Some(128),
+        [b'>', b'=', ..] => Some(129),
+        [b'!', b'=', ..] => Some(130),
+        _ => None,
+    }
+}
+
 fn read_sign(text: &[u8], place: Place) -> Result<Found, LexFault>
     requires some { 0 < length text.now }
     requires solid { IsFalse (is_white (slice_index text.now 0)) }
     requires letter { IsFalse (is_letter (slice_index text.now 0)) }
+    requires quote { slice_index text.now 0 ≢ 34 }
     requires number { longest is_number (length text.now) text.now ≡ 0 }
+    requires line_comment { IsFalse (opens_line_comment text.now) }
+    requires comment { IsFalse (opens_comment text.now) }
     ensures found { IfOk result (IsFound place text.now) }
-    ensures fault { IfErr result (λ f. kind_of place (front_of text.now) ≡ Err f) }
+    ensures fault { IfErr result (λ f. piece_tokens place (front_of text.now) ≡ Err f) }
 {
+    if let Some(code) = two_byte_sign(text) {
+        return Ok(Found {
+            kind: Some(Kind::Sign(code)),
+            length: 2,
+            lines: 0,
+        });
+    }
     let sign = text[0];
     if is_sign_byte(sign) {
         Ok(Found {
-            kind: Kind::Sign(sign),
+            kind: Some(Kind::Sign(sign)),
             length: 1,
             lines: 0,
         })
@@ -69,15 +97,27 @@ fn read_sign(text: &[u8], place: Place) -> Result<Found, LexFault>
     }
 }
 
-/// The token that the text begins with, which isn't white space.
-pub fn read_token(text: &[u8], place: Place) -> Result<Found, LexFault>
+/// The comment or token that the text begins with, where it begins with no white space.
+pub fn read_piece(alloc: Global, text: &[u8], place: Place) -> Result<Found, LexFault>
     requires some { 0 < length text.now }
+    requires size { length text.now ≤ 2 ^ 24 }
     requires solid { IsFalse (is_white (slice_index text.now 0)) }
     ensures found { IfOk result (IsFound place text.now) }
-    ensures fault { IfErr result (λ f. kind_of place (front_of text.now) ≡ Err f) }
+    ensures fault { IfErr result
+        (λ f. f ≢ LexFault.NoMemory → piece_tokens place (front_of text.now) ≡ Err f) }
 {
-    if is_letter(text[0]) {
+    let first = text[0];
+    if is_letter(first) {
         return read_word(text, place);
+    }
+    if first == b'"' {
+        return read_text(alloc, text, place);
+    }
+    if text.starts_with(b"//") {
+        return Ok(read_line_comment(text, place));
+    }
+    if text.starts_with(b"/*") {
+        return read_comment(text, place);
     }
     let length = number_length(text);
     if length > 0 {

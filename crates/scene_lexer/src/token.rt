@@ -1,6 +1,9 @@
 // Tokens and their places.
+ghost use Rattle.std.specs.Prelude.{◌≡◌, IfOk};
+
 use crate::Name;
 use fix_math::{Fix, Str};
+use std::alloc::{AllocError, Global};
 
 /// A place in the texts of a scene.
 #[derive(Clone, Copy, Debug, PartialEq, Eq)]
@@ -32,6 +35,32 @@ pub struct Token {
     pub kind: Kind,
     pub place: Place,
     pub to: u32,
+}
+
+impl Kind {
+    fn copy(&self, alloc: Global) -> Result<Kind, AllocError>
+        ensures { IfOk result (λ copy. copy ≡ self.now) }
+    {
+        Ok(match self {
+            Kind::Word(name) => Kind::Word(name.copy()),
+            Kind::Number(value) => Kind::Number(*value),
+            Kind::Text(text) => Kind::Text(Str::new(Vec::from_slice(alloc, text.bytes())?)),
+            Kind::Sign(code) => Kind::Sign(*code),
+        })
+    }
+}
+
+impl Token {
+    /// The same token again. Only a text needs memory.
+    pub fn copy(&self, alloc: Global) -> Result<Token, AllocError>
+        ensures { IfOk result (λ copy. copy ≡ self.now) }
+    {
+        Ok(Token {
+            kind: self.kind.copy(alloc)?,
+            place: self.place,
+            to: self.to,
+        })
+    }
 }
 
 /// Why a text has no tokens. The place is that of the first byte of what is at fault.

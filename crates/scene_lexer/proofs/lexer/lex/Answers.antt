@@ -1,9 +1,9 @@
--- Each turn of the loop is one white byte, one token or the first fault.
-use Rattle.std.proofs.Common.{◌≡◌, ◌+◌, drop, slice_index, arith, sym, ap, ◌∙◌, refl, subst, [], ◌∷◌, ◌++◌, Err, cond, not}
-use Rattle.scene_lexer.specs.Tokens.{IsFound, kind_of, front_of, line_after, Ascend}
-use Rattle.scene_lexer.specs.declared.token.Token.{Token}
+-- Each turn of the loop is one white byte, one piece or the first fault.
+use Rattle.std.proofs.Common.{◌≡◌, ◌+◌, ◌≤◌, ◌<◌, length, drop, slice_index, arith, sym, ap, ◌∙◌, refl, subst, List, [], ◌∷◌, ◌++◌, Err, not}
+use Rattle.scene_lexer.specs.Tokens.{piece_tokens, front_of, line_after, tokens_at, Ascend}
+use Rattle.scene_lexer.specs.Steps.{IsFound, found_tokens}
 use Rattle.scene_lexer.proofs.TokensLemmas.{place_at}
-use Rattle.scene_lexer.proofs.LexLemmas.{IsRead, start_read, start_within, white_read, found_within, token_read, fault_read, end_read, ascend_none, ascend_push, ascend_more, line_feed, no_line_feed}
+use Rattle.scene_lexer.proofs.LexLemmas.{IsRead, start_read, start_within, white_read, found_within, piece_read, fault_read, end_read, ascend_none, ascend_add, ascend_more, line_feed, no_line_feed, ok-then}
 use Rattle.scene_lexer.proofs.lexer.lex.Goals as goal
 use Rattle.scene_lexer.proofs.lexer.lex.Goals.{then-byte-eq10, else-byte-eq10}
 
@@ -39,8 +39,8 @@ overflow_add-line-in-Ok c =
     let inside = found_within (place_at c.args.file c.bytes.at c.bytes.line) c.bytes.at c.args.text.now c.in-Ok.found (omega arith) (subst (λ s. IsFound (place_at c.args.file c.bytes.at c.bytes.line) s c.in-Ok.found) c.rest_of.ensures c.in-Ok.ensures.found) in
     omega (arith, inside.0, inside.1)
 
-pub overflow_cast-token : goal.overflow_cast-token
-overflow_cast-token c =
+pub overflow_cast-at : goal.overflow_cast-at
+overflow_cast-at c =
     let inside = found_within (place_at c.args.file c.bytes.at c.bytes.line) c.bytes.at c.args.text.now c.in-Ok.found (omega arith) (subst (λ s. IsFound (place_at c.args.file c.bytes.at c.bytes.line) s c.in-Ok.found) c.rest_of.ensures c.in-Ok.ensures.found) in
     omega (arith, inside.0)
 
@@ -50,22 +50,21 @@ bytes-preserved c =
     let found = c.in-Ok.found in
     let is_found : IsFound place (drop c.bytes.at c.args.text.now) found = subst (λ s. IsFound place s found) c.rest_of.ensures c.in-Ok.ensures.found in
     let inside = found_within place c.bytes.at c.args.text.now found (omega arith) is_found in
-    let token : Token = record { kind = found.kind; place = place; to = c.bytes.at + found.length } in
-    let pushed : c.push.new.self.items ≡ c.bytes.tokens.items ++ token ∷ [] =
-    c.push.ensures.items ∙ ap (λ v. cond v (c.bytes.tokens.items ++ token ∷ []) c.bytes.tokens.items) (c.is_err.ensures.negation ∙ ap not c.if-is_err.false) in
+    let added : c.add_token.new.tokens.items ≡ c.bytes.tokens.items ++ found_tokens place found =
+    ok-then c.add_token.result _ (c.is_err.ensures.negation ∙ ap not c.if-is_err.false) c.add_token.ensures in
     record {
-      read = subst (λ ts. IsRead c.args.file (c.bytes.at + found.length) (c.bytes.line + found.lines) ts c.args.text.now) (sym pushed)
-          (token_read c.args.file c.bytes.at c.bytes.line c.bytes.tokens.items c.args.text.now found (omega arith) is_found c.bytes.invariant.read);
+      read = subst (λ ts. IsRead c.args.file (c.bytes.at + found.length) (c.bytes.line + found.lines) ts c.args.text.now) (sym added)
+          (piece_read c.args.file c.bytes.at c.bytes.line c.bytes.tokens.items c.args.text.now found (omega arith) is_found c.bytes.invariant.read);
       within = inside.0;
       lines = omega (arith, inside.1);
-      spans = subst (Ascend (c.bytes.at + found.length)) (sym pushed)
-          (ascend_push c.bytes.at (c.bytes.at + found.length) c.bytes.tokens.items token c.bytes.invariant.spans refl refl (omega (arith, is_found.some)));
+      spans = subst (Ascend (c.bytes.at + found.length)) (sym added)
+          (ascend_add c.bytes.at (c.bytes.at + found.length) c.bytes.tokens.items place found.kind c.bytes.invariant.spans refl (omega (arith, is_found.some)));
     }
 
 pub returns-in-Err-clause-fault : goal.returns-in-Err-clause-fault
 returns-in-Err-clause-fault c = λ some.
-    fault_read c.args.file c.bytes.at c.bytes.line c.bytes.tokens.items c.args.text.now c.in-Err.fault (omega arith) (sym c.if-is_white.ensures)
-    (subst (λ s. kind_of (place_at c.args.file c.bytes.at c.bytes.line) (front_of s) ≡ Err c.in-Err.fault) c.rest_of.ensures c.in-Err.ensures.fault) c.bytes.invariant.read
+    fault_read c.args.file c.bytes.at c.bytes.line c.bytes.tokens.items c.args.text.now c.in-Err.fault (omega arith)
+    (subst (λ s. piece_tokens (place_at c.args.file c.bytes.at c.bytes.line) (front_of s) ≡ Err c.in-Err.fault) c.rest_of.ensures (c.in-Err.ensures.fault some)) c.bytes.invariant.read
 
 pub returns-clause-tokens : goal.returns-clause-tokens
 returns-clause-tokens c = end_read c.args.file c.bytes.at c.bytes.line c.bytes.tokens.items c.args.text.now (omega arith) c.bytes.invariant.read

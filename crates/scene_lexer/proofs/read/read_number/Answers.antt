@@ -1,9 +1,9 @@
 -- The longest piece is the number.
-use Rattle.std.proofs.Common.{length, arith, sym, ◌∙◌}
+use Rattle.std.proofs.Common.{length, arith, sym}
 use Rattle.std.proofs.lemmas.List.{length-take-le}
 use Rattle.scene_lexer.specs.Spellings.{is_number}
 use Rattle.scene_lexer.proofs.LongestLemmas.{longest-le}
-use Rattle.scene_lexer.proofs.FoundLemmas.{number_front, number_found}
+use Rattle.scene_lexer.proofs.FoundLemmas.{number_fault, number_found}
 use Rattle.scene_lexer.proofs.read.read_number.Goals as goal
 
 pub slice_bounds-number_of-end : goal.slice_bounds-number_of-end
@@ -16,4 +16,4 @@ returns-in-Ok-clause-found c =
 
 pub returns-in-Err-clause-fault : goal.returns-in-Err-clause-fault
 returns-in-Err-clause-fault c =
-    number_front c.args.place c.args.text.now c.args.bytes c.requires.letter c.requires.longest c.requires.some ∙ sym c.in-Err.ensures
+    number_fault c.args.place c.args.text.now c.args.bytes c.in-Err.fault c.requires.letter c.requires.longest c.requires.some c.in-Err.ensures

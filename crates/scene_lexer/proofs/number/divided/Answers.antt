@@ -1,7 +1,7 @@
 -- A power of ten up to the 30th fits.
-use Rattle.std.proofs.Common.{arith}
+use Rattle.std.proofs.Common.{◌≤◌, ◌^◌, arith}
 use Rattle.scene_lexer.proofs.NumberLemmas.{ten_pow-le, ten_pow-pos}
-use Rattle.scene_lexer.proofs.number.scaled.Goals as goal
+use Rattle.scene_lexer.proofs.number.divided.Goals as goal
 
 pub pow-divisor-requires : goal.pow-divisor-requires
 pow-divisor-requires c = omega (arith, ten_pow-le c.args.down 30 c.requires.down)

@@ -1,0 +1,98 @@
+// Comments: to the end of the line, and nested ones.
+ghost use Rattle.std.specs.Prelude.{◌≡◌, ◌+◌, ◌-◌, ◌≤◌, ◌<◌, ◌^◌, length, drop, IsTrue, IfOk, IfErr};
+ghost use Rattle.std.specs.Prelude.{MatchOption, None};
+ghost use Rattle.scene_lexer.specs.Spellings.{opens_comment, opens_line_comment, is_in_line};
+ghost use Rattle.scene_lexer.specs.Spellings.{mark_tail, depth_after, comment_rest};
+ghost use Rattle.std.specs.List.{prefix_len};
+ghost use Rattle.scene_lexer.specs.Tokens.{piece_tokens, front_of};
+ghost use Rattle.scene_lexer.specs.Steps.{IsClosedComment, IsFound};
+
+use crate::bytes::line_end;
+use crate::found::Found;
+use crate::scan::rest_of;
+use crate::{LexFault, Place};
+
+/// How many bytes the mark takes that the text begins with, or 1 for another byte.
+fn mark_length(text: &[u8]) -> usize
+    ensures { result ≡ 1 + mark_tail text.now }
+{
+    if text.starts_with(b"/*") || text.starts_with(b"*/") {
+        2
+    } else {
+        1
+    }
+}
+
+/// How many comments are open behind the mark or byte that the text begins with, where `depth` are open
+/// before.
+fn depth_after(text: &[u8], depth: u32) -> u32
+    requires open { 0 < depth }
+    requires fits { depth + 1 < 2 ^ 32 }
+    ensures { result ≡ depth_after (depth - 1) text.now }
+{
+    if text.starts_with(b"/*") {
+        depth + 1
+    } else if text.starts_with(b"*/") {
+        depth - 1
+    } else {
+        depth
+    }
+}
+
+/// The comment that the text begins with, up to where it and all within it are closed; none where it stays
+/// open.
+fn closed_comment(text: &[u8]) -> Option<Found>
+    requires opens { IsTrue (opens_comment text.now) }
+    requires size { length text.now ≤ 2 ^ 24 }
+    ensures { MatchOption result (comment_rest 0 1 (drop 2 text.now) ≡ None) (IsClosedComment text.now) }
+{
+    let mut at = 2;
+    let mut depth = 1;
+    let mut lines = 0;
+    'comment: while depth > 0 {
+        if at >= text.len() {
+            return None;
+        }
+        let rest = rest_of(text, at);
+        depth = depth_after(rest, depth);
+        lines += line_end(text[at]);
+        at += mark_length(rest);
+    }
+    Some(Found {
+        kind: None,
+        length: at,
+        lines,
+    })
+}
+
+/// The nested comment that the text begins with.
+pub fn read_comment(text: &[u8], place: Place) -> Result<Found, LexFault>
+    requires opens { IsTrue (opens_comment text.now) }
+    requires size { length text.now ≤ 2 ^ 24 }
+    ensures found { IfOk result (IsFound place text.now) }
+    ensures fault { IfErr result (λ f. piece_tokens place (front_of text.now) ≡ Err f) }
+{
+    match closed_comment(text) {
+        Some(found) => Ok(found),
+        None => Err(LexFault::OpenComment(place)),
+    }
+}
+
+/// How many bytes the text has before its first line feed.
+fn line_length(text: &[u8]) -> usize
+    ensures length { result ≡ prefix_len is_in_line text.now }
+{
+    text.iter().take_while(|byte| **byte != b'\n').count()
+}
+
+/// The comment to the end of the line that the text begins with.
+pub fn read_line_comment(text: &[u8], place: Place) -> Found
+    requires opens { IsTrue (opens_line_comment text.now) }
+    ensures { IsFound place text.now result }
+{
+    Found {
+        kind: None,
+        length: line_length(text),
+        lines: 0,
+    }
+}
