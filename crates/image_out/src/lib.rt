@@ -1,0 +1,9 @@
+//! Image files: PPM, Targa and run-length Targa.
+#![tactic(auto)]
+
+mod append;
+mod file;
+mod picture;
+
+pub use file::{put, room};
+pub use picture::{Picture, Sort};
