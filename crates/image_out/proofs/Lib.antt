@@ -1,2 +1,3 @@
 pub mod FileLemmas
-pub mod TurnedLemmas
+pub mod PacketLemmas
+pub mod PixelLemmas

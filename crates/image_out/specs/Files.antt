@@ -1,10 +1,11 @@
 -- The bytes of a picture's file. (Netpbm, ppm(5); Truevision TGA 2.0)
 use Rattle.std.specs.Prelude.{ℕ, ◌==◌, List, [], ◌∷◌, ◌++◌, codes, decimal, if◌then◌else◌}
-use Rattle.std.specs.List.{repeat}
+use Rattle.std.specs.List.{flat_map, repeat}
 use Rattle.byteorder.specs.Endian.{little_bytes}
 use Rattle.image_out.specs.declared.picture.Sort.{Sort}
-use Rattle.image_out.specs.declared.picture.Sort.TheVariants.{Ppm, Targa}
-use Rattle.image_out.specs.Pixels.{samples_turned}
+use Rattle.image_out.specs.declared.picture.Sort.TheVariants.{Ppm, Targa, TargaRle}
+use Rattle.image_out.specs.Pixels.{pixels_of, turned, rows_of}
+use Rattle.image_out.specs.Packets.{packed}
 
 -- the greatest sample
 abbrev pub greatest_line : ℕ → List ℕ
@@ -23,4 +24,6 @@ targa_header kind width height =
 -- the file of a picture of these samples
 unfoldable pub file_of : Sort → ℕ → ℕ → ℕ → List ℕ → List ℕ
 file_of Ppm width height bits samples = ppm_header width height bits ++ samples
-file_of Targa width height bits samples = targa_header 2 width height ++ samples_turned samples
+file_of Targa width height bits samples = targa_header 2 width height ++ flat_map turned (pixels_of samples)
+file_of TargaRle width height bits samples =
+    targa_header 10 width height ++ packed (rows_of width height (pixels_of samples))

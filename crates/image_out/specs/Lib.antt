@@ -1,3 +1,4 @@
 pub mod Files
+pub mod Packets
 pub mod Pixels
 pub mod Sizes

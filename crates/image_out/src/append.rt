@@ -1,7 +1,8 @@
 // Bytes at the end of a list that has room for them.
 ghost use Rattle.std.specs.Prelude.{◌≡◌, ◌+◌, ◌≤◌, ◌++◌, length, vec_len, vec_capacity, decimal};
 ghost use Rattle.byteorder.specs.Endian.{little_bytes};
-ghost use Rattle.image_out.specs.Pixels.{samples_turned};
+ghost use Rattle.std.specs.List.{flat_map};
+ghost use Rattle.image_out.specs.Pixels.{pixels_of, turned};
 
 use byteorder::{ByteOrder, LittleEndian};
 use itoa::Buffer;
@@ -26,7 +27,8 @@ pub(crate) fn append(out: &mut Vec<u8>, bytes: &[u8])
 /// Appends the samples of each pixel in the order blue, green, red.
 pub(crate) fn append_turned(out: &mut Vec<u8>, samples: &[u8])
     requires { vec_len out.old + length samples.now ≤ vec_capacity out.old }
-    ensures items { out.new.items ≡ out.old.items ++ samples_turned samples.now }
+    ensures items { out.new.items ≡ out.old.items ++ flat_map turned (pixels_of samples.now) }
+    ensures length { vec_len out.new ≤ vec_len out.old + length samples.now }
     ensures capacity { vec_capacity out.new ≡ vec_capacity out.old }
 {
     let empty = Vec::new(*out.allocator());

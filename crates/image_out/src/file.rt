@@ -4,6 +4,7 @@ ghost use Rattle.image_out.specs.Sizes.{IsSide, IsDepth, HasDepth, picture_lengt
 ghost use Rattle.image_out.specs.Files.{file_of, greatest_line, ppm_header, targa_header};
 
 use crate::append::{append, append_decimal, append_turned, append_u16};
+use crate::packets::put_rows;
 use crate::{Picture, Sort};
 
 /// At least the length of the file, whatever the picture holds.
@@ -20,6 +21,7 @@ pub fn room(sort: Sort, width: u32, height: u32, bits: u32) -> u64
     match sort {
         Sort::Ppm => 19 + samples,
         Sort::Targa => 18 + samples,
+        Sort::TargaRle => 18 + 4 * width as u64 * height as u64,
     }
 }
 
@@ -43,6 +45,10 @@ pub fn put(sort: Sort, p: &Picture, out: &mut Vec<u8>)
         Sort::Targa => {
             put_targa_header(2, p.width, p.height, out);
             append_turned(out, p.bytes);
+        }
+        Sort::TargaRle => {
+            put_targa_header(10, p.width, p.height, out);
+            put_rows(p.bytes, p.width as usize, p.height as usize, out);
         }
     }
 }

@@ -3,6 +3,7 @@
 
 mod append;
 mod file;
+mod packets;
 mod picture;
 
 pub use file::{put, room};

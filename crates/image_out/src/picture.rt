@@ -7,6 +7,8 @@ pub enum Sort {
     Ppm,
     /// Truevision Targa, true colour without packets.
     Targa,
+    /// The same with run-length packets, each within one row.
+    TargaRle,
 }
 
 /// The samples red, green and blue of each pixel, by rows from the top.

@@ -1,7 +1,8 @@
 -- A step turns one pixel, and at the end no whole pixel is left.
 use Rattle.std.proofs.Common.{◌++◌, ◌<◌, length, drop, arith, ap, sym, ◌∙◌, length-drop, append-nil}
-use Rattle.image_out.specs.Pixels.{samples_turned}
-use Rattle.image_out.proofs.TurnedLemmas.{turned_more, turned_short}
+use Rattle.std.specs.List.{flat_map}
+use Rattle.image_out.specs.Pixels.{pixels_of, turned}
+use Rattle.image_out.proofs.PixelLemmas.{turned_more, pixels_short}
 use Rattle.image_out.proofs.append.append_turned.Goals as goal
 
 pub loop-at-preserved : goal.loop-at-preserved
@@ -19,4 +20,4 @@ returns-clause-items c =
     let l = c.loop-at in
     let few : length (drop l.at c.args.samples.now) < 3 =
     omega (arith, length-drop l.at c.args.samples.now, c.loop-at-test.false, l.invariant.within) in
-    sym (append-nil l.list.items) ∙ ap (λ t. l.list.items ++ t) (sym (turned_short (drop l.at c.args.samples.now) few)) ∙ l.invariant.items ∙ ap (λ v. v.items ++ samples_turned c.args.samples.now) c.replace-list.ensures.value
+    sym (append-nil l.list.items) ∙ ap (λ t. l.list.items ++ flat_map turned t) (sym (pixels_short (drop l.at c.args.samples.now) few)) ∙ l.invariant.items ∙ ap (λ v. v.items ++ flat_map turned (pixels_of c.args.samples.now)) c.replace-list.ensures.value

@@ -21,3 +21,12 @@ returns-in-Targa-clause-enough c bytes d e =
       ap (λ s. room_of s a.width a.height a.bits) c.in-Targa.is,
       file_fits a.sort a.width a.height a.bits bytes c.requires.width c.requires.height e,
     )
+
+pub returns-in-TargaRle-clause-enough : goal.returns-in-TargaRle-clause-enough
+returns-in-TargaRle-clause-enough c bytes d e =
+    let a = c.args in
+    omega (
+      arith,
+      ap (λ s. room_of s a.width a.height a.bits) c.in-TargaRle.is,
+      file_fits a.sort a.width a.height a.bits bytes c.requires.width c.requires.height e,
+    )
