@@ -53,7 +53,7 @@ ppm_fits width height bits samples w h =
       length-append (sides ++ codes "\n" ++ greatest_line bits) samples,
     )
 
-length-targa : (kind width height : ℕ) → length (targa_header kind width height) ≡ 18
+pub length-targa : (kind width height : ℕ) → length (targa_header kind width height) ≡ 18
 unfolding targa_header
 length-targa kind width height = refl
 

@@ -10,7 +10,7 @@ use Rattle.image_out.specs.Pixels.{Pixel, is_same, turned, pixels_of, pixel_at, 
 use Rattle.image_out.specs.Packets.{Packet, Run, Raw, alike_here, unlike, packet_here, packets_from, packets_of, packet_bytes, pixel_count, row_bytes, packed}
 
 -- no more pixels are unlike than there are
-unlike-le : (ps : List Pixel) → unlike ps ≤ length ps
+pub unlike-le : (ps : List Pixel) → unlike ps ≤ length ps
 unfolding unlike
 unlike-le [] = omega arith
 unlike-le (p ∷ []) = omega arith

@@ -2,3 +2,4 @@ pub mod Files
 pub mod Packets
 pub mod Pixels
 pub mod Sizes
+pub mod Unpacking

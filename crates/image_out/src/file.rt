@@ -1,6 +1,8 @@
 // The bytes of a file.
-ghost use Rattle.std.specs.Prelude.{◌≡◌, ◌+◌, ◌-◌, ◌≤◌, ◌^◌, ◌++◌, List, ℕ, length, vec_len, vec_capacity};
+ghost use Rattle.std.specs.Prelude.{◌≡◌, ◌+◌, ◌≤◌, ◌++◌, List, ℕ, length, drop, vec_len, vec_capacity};
 ghost use Rattle.image_out.specs.Sizes.{IsSide, IsDepth, HasDepth, picture_length, room_of};
+ghost use Rattle.image_out.specs.Pixels.{pixels_of, rows_of};
+ghost use Rattle.image_out.specs.Unpacking.{Unpacks};
 ghost use Rattle.image_out.specs.Files.{file_of, greatest_line, ppm_header, targa_header};
 
 use crate::append::{append, append_decimal, append_turned, append_u16};
@@ -25,7 +27,8 @@ pub fn room(sort: Sort, width: u32, height: u32, bits: u32) -> u64
     }
 }
 
-/// Appends the file's bytes. The list has the room from the start, so no memory is taken.
+/// Appends the file's bytes. The list has the room from the start, so no memory is taken. Behind a
+/// run-length file's header of 18 bytes stand packets that unpack to the picture.
 pub fn put(sort: Sort, p: &Picture, out: &mut Vec<u8>)
     requires width { IsSide p.now.width }
     requires height { IsSide p.now.height }
@@ -35,6 +38,9 @@ pub fn put(sort: Sort, p: &Picture, out: &mut Vec<u8>)
         ≤ vec_capacity out.old }
     ensures file { out.new.items ≡ out.old.items
         ++ file_of sort p.now.width p.now.height p.now.bits p.now.bytes.now }
+    ensures unpacks { sort ≡ Sort.TargaRle →
+        Unpacks p.now.width (drop (length out.old.items + 18) out.new.items)
+        (rows_of p.now.width p.now.height (pixels_of p.now.bytes.now)) }
     ensures capacity { vec_capacity out.new ≡ vec_capacity out.old }
 {
     match sort {
