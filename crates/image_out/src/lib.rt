@@ -5,6 +5,8 @@ mod append;
 mod file;
 mod packets;
 mod picture;
+#[cfg(test)]
+mod tests;
 
 pub use file::{put, room};
 pub use picture::{Picture, Sort};
