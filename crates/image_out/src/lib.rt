@@ -7,6 +7,8 @@ mod packets;
 mod picture;
 #[cfg(test)]
 mod tests;
+mod unpack;
 
 pub use file::{put, room};
 pub use picture::{Picture, Sort};
+pub use unpack::{RleFault, read_rle};

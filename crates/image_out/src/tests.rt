@@ -1,7 +1,7 @@
 // Files by hand from the formats' definitions, and packets read again.
 ghost use Rattle.std.specs.Prelude.{◌≤◌, length};
 
-use crate::{Picture, Sort, put, room};
+use crate::{Picture, RleFault, Sort, put, read_rle, room};
 use std::alloc::{AllocError, Global};
 use std::test::Fail;
 
@@ -129,18 +129,18 @@ fn rows_of_one_colour(rt: HostRuntime) -> Result<(), Fail> {
 }
 
 /// Reads packets again, row by row, into samples red, green, blue. Nothing where they go wrong.
-fn decoded(alloc: Global, packets: &[u8], width: usize) -> Result<Vec<u8>, AllocError> {
+fn decoded(alloc: Global, packets: &[u8], width: u16) -> Result<Vec<u8>, AllocError> {
     let mut out = Vec::new(alloc);
     let mut rest = packets;
-    let mut in_row = 0;
+    let mut in_row = 0usize;
     while let [head, body @ ..] = rest {
         let count = (*head % 128) as usize + 1;
         let stored = if *head < 128 { count } else { 1 };
         in_row += count;
-        if in_row > width || body.len() < 3 * stored {
+        if in_row > width as usize || body.len() < 3 * stored {
             return Ok(Vec::new(alloc));
         }
-        if in_row == width {
+        if in_row == width as usize {
             in_row = 0;
         }
         for i in 0..count {
@@ -156,11 +156,11 @@ fn decoded(alloc: Global, packets: &[u8], width: usize) -> Result<Vec<u8>, Alloc
 
 #[test]
 fn packets_are_read_again(rt: HostRuntime) -> Result<(), Fail> {
-    let widths: [u32; 6] = [1, 2, 127, 128, 129, 257];
+    let widths: [u16; 6] = [1, 2, 127, 128, 129, 257];
     for width in widths {
         for mix in 1..9u32 {
             let mut bytes = Vec::new(rt.alloc());
-            for pixel in 0..2 * width {
+            for pixel in 0..2 * width as u32 {
                 let shade = (pixel / mix + pixel % mix * (pixel / 64 % 2)) % 256;
                 bytes.extend_from_slice(&[shade as u8, 7, (pixel / 200 % 256) as u8])?;
             }
@@ -172,9 +172,68 @@ fn packets_are_read_again(rt: HostRuntime) -> Result<(), Fail> {
             };
             let written = file(rt.alloc(), Sort::TargaRle, &p)?;
             let packets = written.as_slice().split_at(18.min(written.len())).1;
-            let again = decoded(rt.alloc(), packets, width as usize)?;
+            let again = decoded(rt.alloc(), packets, width)?;
             assert_eq!(rt; again.as_slice(), bytes.as_slice(), "{width} {mix}");
         }
+    }
+    Ok(())
+}
+
+#[test]
+fn packets_that_are_read(rt: HostRuntime) -> Result<(), Fail> {
+    for (width, packets) in ONE_COLOUR {
+        let mut want = Vec::new(rt.alloc());
+        for _pixel in 0..width {
+            want.extend_from_slice(&[0, 128, 255])?;
+        }
+        let read = read_rle(rt.alloc(), packets, width, 1)
+            .ok()
+            .ok_or("refused")?;
+        assert_eq!(rt; read.as_slice(), want.as_slice(), "{width}");
+    }
+    let rows: [(u32, u32, &[u8], &[u8]); 3] = [
+        (
+            2,
+            2,
+            &[1, 3, 2, 1, 6, 5, 4, 129, 3, 2, 1],
+            &[3, 2, 1, 6, 5, 4, 3, 2, 1, 3, 2, 1],
+        ),
+        (
+            3,
+            1,
+            &[128, 1, 2, 3, 1, 4, 5, 6, 7, 8, 9],
+            &[1, 2, 3, 4, 5, 6, 7, 8, 9],
+        ),
+        (0, 3, &[], &[]),
+    ];
+    for (width, height, packets, want) in rows {
+        let read = read_rle(rt.alloc(), packets, width, height)
+            .ok()
+            .ok_or("refused")?;
+        assert_eq!(rt; read.as_slice(), want, "{width} {height}");
+    }
+    Ok(())
+}
+
+#[test]
+fn faults_of_packets(rt: HostRuntime) -> Result<(), Fail> {
+    let rows: [(u32, u32, &[u8], RleFault); 10] = [
+        (1, 2, &[0x81, 0, 0, 0], RleFault::PastRow),
+        (1, 1, &[0, 0], RleFault::Short),
+        (1, 1, &[], RleFault::Short),
+        (1, 2, &[0, 1, 2, 3], RleFault::Short),
+        (1, 2, &[0x81], RleFault::PastRow),
+        (2, 1, &[0x81, 0, 0], RleFault::Short),
+        (3, 1, &[0, 1, 2, 3, 2, 4, 5], RleFault::PastRow),
+        (1, 1, &[0, 1, 2, 3, 9], RleFault::Long),
+        (1, 0, &[0], RleFault::Long),
+        (0, 1, &[0], RleFault::Long),
+    ];
+    for (width, height, packets, want) in rows {
+        let fault = read_rle(rt.alloc(), packets, width, height)
+            .err()
+            .ok_or("read")?;
+        assert_eq!(rt; fault, want, "{width} {height} {packets:?}");
     }
     Ok(())
 }
