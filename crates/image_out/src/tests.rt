@@ -154,18 +154,23 @@ fn decoded(alloc: Global, packets: &[u8], width: u16) -> Result<Vec<u8>, AllocEr
     Ok(out)
 }
 
+/// Each bit of a mix says whether a pixel differs from the one before it.
 #[test]
 fn packets_are_read_again(rt: HostRuntime) -> Result<(), Fail> {
     let widths: [u16; 6] = [1, 2, 127, 128, 129, 257];
     for width in widths {
-        for mix in 1..9u32 {
+        for mix in 0..64u32 {
             let mut bytes = Vec::new(rt.alloc());
-            for pixel in 0..2 * width as u32 {
-                let shade = (pixel / mix + pixel % mix * (pixel / 64 % 2)) % 256;
-                bytes.extend_from_slice(&[shade as u8, 7, (pixel / 200 % 256) as u8])?;
+            let mut pixel = [0u8; 3];
+            for i in 0..2 * width as u32 {
+                if mix >> (i % 6) & 1 == 1 {
+                    let at = (i % 3) as usize;
+                    pixel[at] = pixel[at].wrapping_add(1);
+                }
+                bytes.extend_from_slice(&pixel)?;
             }
             let p = Picture {
-                width,
+                width: width as u32,
                 height: 2,
                 bits: 8,
                 bytes: bytes.as_slice(),
