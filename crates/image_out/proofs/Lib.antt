@@ -1,0 +1,5 @@
+pub mod FileLemmas
+pub mod PacketLemmas
+pub mod PixelLemmas
+pub mod ReadLemmas
+pub mod UnpackLemmas

@@ -1,0 +1,5 @@
+pub mod Files
+pub mod Packets
+pub mod Pixels
+pub mod Sizes
+pub mod Unpacking
