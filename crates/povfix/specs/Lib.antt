@@ -2,7 +2,6 @@ pub mod Options
 pub mod Colours
 pub mod Grammar
 pub mod Picture
-pub mod Ppm
 pub mod Lines
 pub mod Texts
 pub mod Verdict

@@ -15,7 +15,8 @@ use Rattle.povfix.specs.Texts.{text_of, IsWithinLimit}
 use Rattle.povfix.specs.declared.parser.Refusal.{Refusal}
 use Rattle.povfix.specs.Grammar.{kinds_of, Drawn, IsScene, IsRefusal}
 use Rattle.povfix.specs.Picture.{IsPicture}
-use Rattle.povfix.specs.Ppm.{ppm_file}
+use Rattle.image_out.specs.declared.picture.Sort.TheVariants.{Ppm}
+use Rattle.image_out.specs.Files.{file_of}
 
 -- ---- places
 
@@ -87,7 +88,7 @@ pub record IsSides (plan : Plan) : Type 0 where
 pub record IsDrawn (plan : Plan) (drawn : Drawn) (bytes : List ℕ) : Type 0 where
   pub picture : List ℕ
   pub shown : IsPicture drawn plan.width plan.height picture
-  pub file : bytes ≡ ppm_file plan.width plan.height picture
+  pub file : bytes ≡ file_of Ppm plan.width plan.height 8 picture
 
 -- the bytes of a text's picture file
 pub record IsImage (plan : Plan) (text bytes : List ℕ) : Type 0 where

@@ -2,19 +2,19 @@
 ghost use Rattle.std.specs.Prelude.{◌≡◌, ◌≤◌, ◌<◌, ◌*◌, ◌^◌, IfOk, IfErr, MatchBool, length};
 ghost use Rattle.povfix.specs.Grammar.{drawn_of, kinds_of, IsScene};
 ghost use Rattle.povfix.specs.Picture.{IsPicture};
-ghost use Rattle.povfix.specs.Ppm.{ppm_file};
 ghost use Rattle.povfix.specs.Texts.{IsWithinLimit};
 ghost use Rattle.povfix.specs.Verdict.{lexed_fault, parsed_fault, token_place, IsDrawn, IsImage, IsMeaningless, IsMeant, IsSides, IsTextFault};
+ghost use Rattle.image_out.specs.Files.{file_of};
 ghost use Rattle.scene_lexer.specs.Tokens.{tokens_of};
 
 use crate::frame_trace::draw;
 use crate::options::Plan;
 use crate::outcome::Fault;
 use crate::parser::{parse, Refusal};
-use crate::ppm::ppm_file;
 use crate::scene::Scene;
+use image_out::{Picture, Sort, put, room};
 use scene_lexer::{lex, LexFault, Place, Token};
-use std::alloc::Global;
+use std::alloc::{AllocError, Global};
 
 /// The start of the first text.
 const START: Place = Place {
@@ -97,20 +97,32 @@ fn scene_of(alloc: Global, text: &[u8]) -> Result<Scene, Fault>
     }
 }
 
+/// The picture in the form of its file.
+fn filed(alloc: Global, plan: &Plan, picture: &[u8]) -> Result<Vec<u8>, AllocError>
+    requires sides { IsSides plan.now }
+    requires whole { length picture.now ≡ 3 * (plan.now.width * plan.now.height) }
+    ensures { IfOk result (λ file. file.items ≡ file_of Sort.Ppm plan.now.width plan.now.height 8 picture.now) }
+{
+    let room = room(Sort::Ppm, plan.width, plan.height, 8);
+    let mut file = Vec::with_capacity(alloc, room as usize)?;
+    let picture = Picture {
+        width: plan.width,
+        height: plan.height,
+        bits: 8,
+        bytes: picture,
+    };
+    put(Sort::Ppm, &picture, &mut file);
+    Ok(file)
+}
+
 /// Draws the scene and puts it in the form of its file.
-fn drawn(alloc: Global, plan: &Plan, scene: &Scene) -> Result<Vec<u8>, Fault>
+fn drawn(alloc: Global, plan: &Plan, scene: &Scene) -> Result<Vec<u8>, AllocError>
     requires sides { IsSides plan.now }
     requires few { length scene.now.balls.items < 2 ^ 32 }
-    ensures file { IfOk result (λ file. IsDrawn plan.now (drawn_of scene.now) file.items) }
-    ensures fault { IfErr result (λ fault. fault ≡ Fault.NoMemory) }
+    ensures { IfOk result (λ file. IsDrawn plan.now (drawn_of scene.now) file.items) }
 {
-    let Ok(picture) = draw(alloc, scene, plan.width, plan.height) else {
-        return Err(Fault::NoMemory);
-    };
-    match ppm_file(alloc, plan.width, plan.height, &picture) {
-        Ok(file) => Ok(file),
-        Err(_) => Err(Fault::NoMemory),
-    }
+    let picture = draw(alloc, scene, plan.width, plan.height)?;
+    filed(alloc, plan, &picture)
 }
 
 /// The bytes of a text's picture file, or why it has none.
@@ -122,8 +134,12 @@ pub fn image_file(alloc: Global, plan: &Plan, text: &[u8]) -> Result<Vec<u8>, Fa
     if !is_within_limit(plan.input.bytes(), text) {
         return Err(Fault::Limit(4, START));
     }
-    match scene_of(alloc, text) {
-        Ok(scene) => drawn(alloc, plan, &scene),
-        Err(fault) => Err(fault),
+    let scene = match scene_of(alloc, text) {
+        Ok(scene) => scene,
+        Err(fault) => return Err(fault),
+    };
+    match drawn(alloc, plan, &scene) {
+        Ok(file) => Ok(file),
+        Err(_) => Err(Fault::NoMemory),
     }
 }

@@ -9,7 +9,6 @@ mod mem_texts;
 mod options;
 mod outcome;
 mod parser;
-mod ppm;
 mod render;
 mod say;
 mod scene;

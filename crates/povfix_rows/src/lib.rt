@@ -1,0 +1,11 @@
+//! Rows by hand over texts, storage and a sink in memory. There is nothing here but tests.
+#![tactic(auto)]
+
+#[cfg(test)]
+mod failures;
+#[cfg(test)]
+mod rig;
+#[cfg(test)]
+mod scenes;
+#[cfg(test)]
+mod words;
