@@ -3,6 +3,7 @@ use povfix::{Fault, MemTexts, Outcome, run};
 use scene_lexer::Place;
 use shelf::{MemShelf, MemSink};
 use std::alloc::{AllocError, Global};
+use std::thread::Threads;
 
 /// What a run left: its outcome, and what it told the sink.
 #[derive(Drop)]
@@ -13,11 +14,11 @@ pub struct Left {
 
 /// Runs the words over texts by their names, storage without files, and a sink with room.
 pub fn rendered(
-    rt: &HostRuntime,
+    rt: &(impl Threads + Sync),
+    alloc: Global,
     words: &[&str],
     texts: &[(&str, &[u8])],
 ) -> Result<Left, AllocError> {
-    let alloc = rt.alloc();
     let mut asked = Vec::new(alloc);
     for word in words {
         asked.push(String::from_str(alloc, word)?)?;

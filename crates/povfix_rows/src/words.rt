@@ -1,7 +1,9 @@
 // Command words, with the picture file that they make or the refusal that they meet.
 use crate::rig::rendered;
+use std::alloc::{AllocError, Global};
 use std::process::Abort;
 use std::test::Fail;
+use std::thread::Threads;
 
 /// The texts that can be asked for. All are without items, so that each picture is black.
 const TEXTS: [(&str, &[u8]); 4] = [("a.pov", b""), ("b.c.pov", b""), ("n", b""), ("-x.pov", b"")];
@@ -33,8 +35,8 @@ const ACCEPTED: [(&[&str], &str, &[u8]); 21] = [
     (&["+Oone", "a.pov", "+W1", "+H1", "+Otwo"], "two.ppm", PIXEL),
 ];
 
-/// Words that are refused, and what the sink is told.
-const REFUSED: [(&[&str], &[u8]); 51] = [
+/// Words that are refused, and what the sink is told: no input, names and numbers.
+const VALUES: [(&[&str], &[u8]); 26] = [
     (&[], b"option fault 3 at word 0\n"),
     (&["+W1", "+H1", "+Oout"], b"option fault 3 at word 0\n"),
     (&["+W8192", "+H8192"], b"option fault 3 at word 0\n"),
@@ -61,6 +63,10 @@ const REFUSED: [(&[&str], &[u8]); 51] = [
     (&["a.pov", "+Hx"], b"option fault 2 at word 2\n"),
     (&["a.pov", "+H1e1"], b"option fault 2 at word 2\n"),
     (&["a.pov", "+W99999999999999999999x"], b"option fault 2 at word 2\n"),
+];
+
+/// Words that are refused, and what the sink is told: other switches, other words, and the order of refusals.
+const SWITCHES: [(&[&str], &[u8]); 25] = [
     (&["a.pov", "+FPx"], b"option fault 1 at word 2\n"),
     (&["a.pov", "+FP8"], b"option fault 7 at word 2\n"),
     (&["a.pov", "+FP16"], b"option fault 7 at word 2\n"),
@@ -82,7 +88,7 @@ const REFUSED: [(&[&str], &[u8]); 51] = [
     (&["a.pov", "a.POV"], b"option fault 7 at word 2\n"),
     (&["a.pov", "a.pov2"], b"option fault 7 at word 2\n"),
     (&["a.pov", "a.ini"], b"option fault 7 at word 2\n"),
-    (&["/Ia.pov"], b"option fault 7 at word 1\n"),
+    (&["/W1"], b"option fault 7 at word 1\n"),
     (&["+X", "+W0"], b"option fault 7 at word 1\n"),
     (&["+W0", "+X"], b"option fault 4 at word 1\n"),
     (&["a.pov", "+W1", "+Hx", "+H0", "+I"], b"option fault 2 at word 3\n"),
@@ -91,23 +97,29 @@ const REFUSED: [(&[&str], &[u8]); 51] = [
 #[test]
 fn accepted_words_make_the_picture_file(rt: HostRuntime) -> Result<(), Fail> {
     for (words, name, file) in &ACCEPTED {
-        let left = rendered(&rt, words, &TEXTS)?;
+        let left = rendered(&rt, rt.alloc(), words, &TEXTS)?;
         assert_eq!(&rt; left.outcome.status, 0);
         assert_eq!(&rt; left.outcome.finished, 1);
-        assert_eq!(&rt; left.told.bytes(), b"");
+        assert_eq!(&rt; left.told.bytes(), b"".as_slice());
         assert_eq!(&rt; left.outcome.shelf.contents(name.as_bytes()), *file);
+    }
+    Ok(())
+}
+
+fn are_refused(rt: &(impl Threads + Sync + Abort), alloc: Global, rows: &[(&[&str], &[u8])]) -> Result<(), AllocError> {
+    for (words, told) in rows {
+        let left = rendered(rt, alloc, words, &TEXTS)?;
+        assert_eq!(rt; left.told.bytes(), *told);
+        assert_eq!(rt; left.outcome.status, 1);
+        assert_eq!(rt; left.outcome.finished, 0);
+        assert_eq!(rt; left.outcome.shelf.contents(b"a.ppm"), b"".as_slice());
     }
     Ok(())
 }
 
 #[test]
 fn refused_words_are_told_with_their_place(rt: HostRuntime) -> Result<(), Fail> {
-    for (words, told) in &REFUSED {
-        let left = rendered(&rt, words, &TEXTS)?;
-        assert_eq!(&rt; left.outcome.status, 1);
-        assert_eq!(&rt; left.outcome.finished, 0);
-        assert_eq!(&rt; left.told.bytes(), *told);
-        assert_eq!(&rt; left.outcome.shelf.contents(b"a.ppm"), b"");
-    }
+    are_refused(&rt, rt.alloc(), &VALUES)?;
+    are_refused(&rt, rt.alloc(), &SWITCHES)?;
     Ok(())
 }
