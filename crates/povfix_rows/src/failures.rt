@@ -1,11 +1,42 @@
 // What fails outside, and texts that are absent or too long.
 use crate::rig::{rendered, shown};
-use povfix::{Fault, MemTexts, Traced, run};
+use povfix::{FolderTexts, MemTexts, ReadFail, Texts, Traced, run};
 use shelf::{MemShelf, MemSink, NoSink};
 use std::process::Abort;
 use std::test::Fail;
 
 const TEXT: &[u8] = b"sphere { <0,0,4>, 1 pigment { rgb <0,1,0> } finish { ambient 1 diffuse 0 } }";
+
+/// How a reading ends, with how many bytes.
+fn ending(read: Result<Option<Vec<u8>>, ReadFail>) -> (&'static str, usize) {
+    match read {
+        Ok(Some(bytes)) => ("some", bytes.len()),
+        Ok(None) => ("none", 0),
+        Err(ReadFail::Failed) => ("failed", 0),
+        Err(ReadFail::NoMemory) => ("no memory", 0),
+    }
+}
+
+#[test]
+fn texts_are_read_by_their_names(rt: HostRuntime) -> Result<(), Fail> {
+    let alloc = rt.alloc();
+    let mut texts = MemTexts::new(alloc);
+    texts.add(alloc, b"a", b"one")?;
+    texts.add(alloc, b"b", b"")?;
+    texts.add(alloc, b"a", b"four")?;
+    texts.fail_on(4);
+    assert_eq!(&rt; ending(texts.read(alloc, b"a")), ("some", 4));
+    assert_eq!(&rt; ending(texts.read(alloc, b"b")), ("some", 0));
+    assert_eq!(&rt; ending(texts.read(alloc, b"A")), ("none", 0));
+    assert_eq!(&rt; ending(texts.read(alloc, b"a")), ("failed", 0));
+    assert_eq!(&rt; ending(texts.read(alloc, b"a")), ("some", 4));
+    let mut folder = FolderTexts::new(rt);
+    assert_eq!(&rt;
+        ending(folder.read(alloc, b"no such text.pov")),
+        ("none", 0)
+    );
+    Ok(())
+}
 
 /// Storage whose call of this number fails, from 1, and the status: the file is held, written, cut and synced.
 const SHELF_CALLS: [(u64, u8); 5] = [(1, 7), (2, 7), (3, 7), (4, 7), (5, 0)];
@@ -42,7 +73,14 @@ fn a_text_that_cannot_be_read_is_told(rt: HostRuntime) -> Result<(), Fail> {
     texts.add(alloc, b"a.pov", TEXT)?;
     texts.fail_on(1);
     let mut told = MemSink::with_room(alloc, 100)?;
-    let outcome = run(&rt, alloc, &words, &mut texts, MemShelf::new(alloc), &mut told);
+    let outcome = run(
+        &rt,
+        alloc,
+        &words,
+        &mut texts,
+        MemShelf::new(alloc),
+        &mut told,
+    );
     assert_eq!(&rt; outcome.status, 5);
     assert_eq!(&rt; told.bytes(), b"text fault\n".as_slice());
     Ok(())
@@ -56,10 +94,24 @@ fn a_failing_sink_leaves_the_answer(rt: HostRuntime) -> Result<(), Fail> {
     words.push(String::from_str(alloc, "a.pov")?)?;
     let mut texts = MemTexts::new(alloc);
     let mut told = MemSink::with_room(alloc, 3)?;
-    let outcome = run(&rt, alloc, &words, &mut texts, MemShelf::new(alloc), &mut told);
+    let outcome = run(
+        &rt,
+        alloc,
+        &words,
+        &mut texts,
+        MemShelf::new(alloc),
+        &mut told,
+    );
     assert_eq!(&rt; outcome.status, 4);
     let mut none = NoSink;
-    let outcome = run(&rt, alloc, &words, &mut texts, MemShelf::new(alloc), &mut none);
+    let outcome = run(
+        &rt,
+        alloc,
+        &words,
+        &mut texts,
+        MemShelf::new(alloc),
+        &mut none,
+    );
     assert_eq!(&rt; outcome.status, 4);
     Ok(())
 }
@@ -85,7 +137,10 @@ fn refused_scenes_are_told_with_their_line(rt: HostRuntime) -> Result<(), Fail> 
     let rows: [(&[u8], &[u8]); 3] = [
         (b"sphere { <0,0,4>, 1 }", b"scene fault P2 at a.pov:1\n"),
         (b"\n\n$", b"scene fault L1 at a.pov:3\n"),
-        (b"\nbackground {\nrgb <1,1,257> }", b"scene fault P3 at a.pov:3\n"),
+        (
+            b"\nbackground {\nrgb <1,1,257> }",
+            b"scene fault P3 at a.pov:3\n",
+        ),
     ];
     for (text, line) in rows {
         let left = rendered(&rt, rt.alloc(), &["+Ia.pov"], &[("a.pov", text)])?;

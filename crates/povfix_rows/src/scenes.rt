@@ -18,13 +18,34 @@ const DRAWN: [(&[u8], [u8; 3]); 16] = [
     (b"background { rgb <-0,0,.5> }", [0, 0, 128]),
     (b"background { rgb <256,1.5,0> }", [255, 255, 0]),
     (b"background { rgb <0.1,0.2,0.3> }", [26, 51, 77]),
-    (b"sphere { <0,0,4>, 1 pigment { rgb <0,1,0> } finish { ambient 1 diffuse 0 } }", [0, 255, 0]),
-    (b"sphere { <0,0,4>, 1 pigment { color rgb <1,0,0> } finish { ambient 1 diffuse 0 } } sphere { <0,0,4>, 1 pigment { rgb <0,0,1> } finish { ambient 1 diffuse 0 } }", [255, 0, 0]),
-    (b"sphere { <0,0,5>, 1 pigment { rgb <1,0,0> } finish { ambient 1 diffuse 0 } } sphere { <0,0,4>, 1 pigment { rgb <0,0,1> } finish { ambient 1 diffuse 0 } }", [0, 0, 255]),
-    (b"sphere { <0,0,-4>, 1 pigment { rgb <1,0,0> } finish { ambient 1 diffuse 0 } } background { rgb <0,1,0> }", [0, 255, 0]),
-    (b"sphere { <0,0,0>, 1 pigment { rgb <1,0,0> } finish { ambient 1 diffuse 0 } }", [255, 0, 0]),
-    (b"sphere { <0,0,4>, 0 pigment { rgb <1,0,0> } finish { ambient 1.0 diffuse 0.0 } }", [255, 0, 0]),
-    (b"sphere { <4096,-4096,4096>, 4096 pigment { rgb <1,0,0> } finish { ambient 1 diffuse 0 } }", [0, 0, 0]),
+    (
+        b"sphere { <0,0,4>, 1 pigment { rgb <0,1,0> } finish { ambient 1 diffuse 0 } }",
+        [0, 255, 0],
+    ),
+    (
+        b"sphere { <0,0,4>, 1 pigment { color rgb <1,0,0> } finish { ambient 1 diffuse 0 } } sphere { <0,0,4>, 1 pigment { rgb <0,0,1> } finish { ambient 1 diffuse 0 } }",
+        [255, 0, 0],
+    ),
+    (
+        b"sphere { <0,0,5>, 1 pigment { rgb <1,0,0> } finish { ambient 1 diffuse 0 } } sphere { <0,0,4>, 1 pigment { rgb <0,0,1> } finish { ambient 1 diffuse 0 } }",
+        [0, 0, 255],
+    ),
+    (
+        b"sphere { <0,0,-4>, 1 pigment { rgb <1,0,0> } finish { ambient 1 diffuse 0 } } background { rgb <0,1,0> }",
+        [0, 255, 0],
+    ),
+    (
+        b"sphere { <0,0,0>, 1 pigment { rgb <1,0,0> } finish { ambient 1 diffuse 0 } }",
+        [255, 0, 0],
+    ),
+    (
+        b"sphere { <0,0,4>, 0 pigment { rgb <1,0,0> } finish { ambient 1.0 diffuse 0.0 } }",
+        [255, 0, 0],
+    ),
+    (
+        b"sphere { <4096,-4096,4096>, 4096 pigment { rgb <1,0,0> } finish { ambient 1 diffuse 0 } }",
+        [0, 0, 0],
+    ),
 ];
 
 /// Texts whose form is refused: the letter, the kind, and the place as text, offset and line.
@@ -78,13 +99,31 @@ const VALUES: [(&[u8], &str); 26] = [
     (b" 1234567890123456789012345678901", "L5 0@1:1"),
     (b"sphere { <0,0,4>, 1 }", "P2 0@20:1"),
     (b"sphere { <0,0,4> 1 pigment", "P2 0@17:1"),
-    (b"sphere { <0,0,4097>, 1 pigment { rgb <1,0,0> } finish { ambient 1 diffuse 0 } }", "P3 0@9:1"),
+    (
+        b"sphere { <0,0,4097>, 1 pigment { rgb <1,0,0> } finish { ambient 1 diffuse 0 } }",
+        "P3 0@9:1",
+    ),
     (b"sphere { <0,0,4097>, 1 }", "P3 0@9:1"),
-    (b"sphere { <0,0,4>, -1 pigment { rgb <1,0,0> } finish { ambient 1 diffuse 0 } }", "P3 0@18:1"),
-    (b"sphere { <0,0,4>, 4096.0001 pigment { rgb <1,0,0> } finish { ambient 1 diffuse 0 } }", "P3 0@18:1"),
-    (b"sphere { <0,0,4>, 1 pigment { rgb <0,1,0> } finish { ambient 0.5 diffuse 0 } }", "P2 0@61:1"),
-    (b"sphere { <0,0,4>, 1 pigment { rgb <0,1,0> } finish { ambient 1 diffuse 1 } }", "P2 0@71:1"),
-    (b"sphere { <0,0,4>, 1 pigment { rgb <0,1,0> } finish { ambient 1 diffuse 0 }\n", "P2 0@74:1"),
+    (
+        b"sphere { <0,0,4>, -1 pigment { rgb <1,0,0> } finish { ambient 1 diffuse 0 } }",
+        "P3 0@18:1",
+    ),
+    (
+        b"sphere { <0,0,4>, 4096.0001 pigment { rgb <1,0,0> } finish { ambient 1 diffuse 0 } }",
+        "P3 0@18:1",
+    ),
+    (
+        b"sphere { <0,0,4>, 1 pigment { rgb <0,1,0> } finish { ambient 0.5 diffuse 0 } }",
+        "P2 0@61:1",
+    ),
+    (
+        b"sphere { <0,0,4>, 1 pigment { rgb <0,1,0> } finish { ambient 1 diffuse 1 } }",
+        "P2 0@71:1",
+    ),
+    (
+        b"sphere { <0,0,4>, 1 pigment { rgb <0,1,0> } finish { ambient 1 diffuse 0 }\n",
+        "P2 0@74:1",
+    ),
 ];
 
 /// Three spheres, one before another, each pixel found by asking membership at every number of its ray.
@@ -108,7 +147,11 @@ fn scenes_mean_their_picture(rt: HostRuntime) -> Result<(), Fail> {
     Ok(())
 }
 
-fn are_refused(rt: &(impl Threads + Sync + Abort), alloc: Global, rows: &[(&[u8], &str)]) -> Result<(), AllocError> {
+fn are_refused(
+    rt: &(impl Threads + Sync + Abort),
+    alloc: Global,
+    rows: &[(&[u8], &str)],
+) -> Result<(), AllocError> {
     for (text, want) in rows {
         let left = rendered(rt, alloc, &WORDS, &[("a.pov", *text)])?;
         assert_eq!(rt; shown(alloc, &left.outcome.fault)?.as_str(), *want);
@@ -128,7 +171,12 @@ fn refused_scenes_are_told_with_their_place(rt: HostRuntime) -> Result<(), Fail>
 
 #[test]
 fn the_nearest_sphere_is_seen(rt: HostRuntime) -> Result<(), Fail> {
-    let left = rendered(&rt, rt.alloc(), &["a.pov", "+W6", "+H4"], &[("a.pov", SPHERES)])?;
+    let left = rendered(
+        &rt,
+        rt.alloc(),
+        &["a.pov", "+W6", "+H4"],
+        &[("a.pov", SPHERES)],
+    )?;
     let file: &[u8] = b"P6\n6 4\n255\n\
 \x1a\x33\x4d\x1a\x33\x4d\x1a\x33\x4d\x1a\x33\x4d\x1a\x33\x4d\x1a\x33\x4d\
 \x1a\x33\x4d\x1a\x33\x4d\xff\x00\x00\x00\xff\x00\x00\xff\x00\x1a\x33\x4d\

@@ -6,13 +6,22 @@ use std::test::Fail;
 use std::thread::Threads;
 
 /// The texts that can be asked for. All are without items, so that each picture is black.
-const TEXTS: [(&str, &[u8]); 4] = [("a.pov", b""), ("b.c.pov", b""), ("n", b""), ("-x.pov", b"")];
+const TEXTS: [(&str, &[u8]); 4] = [
+    ("a.pov", b""),
+    ("b.c.pov", b""),
+    ("n", b""),
+    ("-x.pov", b""),
+];
 
 const PIXEL: &[u8] = b"P6\n1 1\n255\n\0\0\0";
 
 /// Words that are accepted, the name of the picture file, and its bytes.
 const ACCEPTED: [(&[&str], &str, &[u8]); 21] = [
-    (&["+Ia.pov", "+W2", "+H1", "+FP"], "a.ppm", b"P6\n2 1\n255\n\0\0\0\0\0\0"),
+    (
+        &["+Ia.pov", "+W2", "+H1", "+FP"],
+        "a.ppm",
+        b"P6\n2 1\n255\n\0\0\0\0\0\0",
+    ),
     (&["+Ia.pov", "+W1", "+H1"], "a.ppm", PIXEL),
     (&["-Ia.pov", "-W1", "-H1", "-FP"], "a.ppm", PIXEL),
     (&["-ia.pov", "-w1", "+h1", "+fp"], "a.ppm", PIXEL),
@@ -20,10 +29,26 @@ const ACCEPTED: [(&[&str], &str, &[u8]); 21] = [
     (&["a.pov", "+W1", "+H1"], "a.ppm", PIXEL),
     (&["+W1", "+H1", "a.pov"], "a.ppm", PIXEL),
     (&["+I-x.pov", "+W1", "+H1"], "-x.ppm", PIXEL),
-    (&["a.pov", "+W08", "+H1"], "a.ppm", b"P6\n8 1\n255\n\0\0\0\0\0\0\0\0\0\0\0\0\0\0\0\0\0\0\0\0\0\0\0\0"),
-    (&["a.pov", "+W1", "+H00000000000000000000000000000000002"], "a.ppm", b"P6\n1 2\n255\n\0\0\0\0\0\0"),
-    (&["a.pov", "+W9", "+H1", "-W2"], "a.ppm", b"P6\n2 1\n255\n\0\0\0\0\0\0"),
-    (&["a.pov", "-w2", "+H7", "+h1"], "a.ppm", b"P6\n2 1\n255\n\0\0\0\0\0\0"),
+    (
+        &["a.pov", "+W08", "+H1"],
+        "a.ppm",
+        b"P6\n8 1\n255\n\0\0\0\0\0\0\0\0\0\0\0\0\0\0\0\0\0\0\0\0\0\0\0\0",
+    ),
+    (
+        &["a.pov", "+W1", "+H00000000000000000000000000000000002"],
+        "a.ppm",
+        b"P6\n1 2\n255\n\0\0\0\0\0\0",
+    ),
+    (
+        &["a.pov", "+W9", "+H1", "-W2"],
+        "a.ppm",
+        b"P6\n2 1\n255\n\0\0\0\0\0\0",
+    ),
+    (
+        &["a.pov", "-w2", "+H7", "+h1"],
+        "a.ppm",
+        b"P6\n2 1\n255\n\0\0\0\0\0\0",
+    ),
     (&["+Inone.pov", "+W1", "+H1", "a.pov"], "a.ppm", PIXEL),
     (&["none.pov", "+W1", "+H1", "+Ia.pov"], "a.ppm", PIXEL),
     (&["+Ib.c.pov", "+W1", "+H1"], "b.c.ppm", PIXEL),
@@ -40,7 +65,10 @@ const VALUES: [(&[&str], &[u8]); 26] = [
     (&[], b"option fault 3 at word 0\n"),
     (&["+W1", "+H1", "+Oout"], b"option fault 3 at word 0\n"),
     (&["+W8192", "+H8192"], b"option fault 3 at word 0\n"),
-    (&["a.pov", "+W8192", "+H2049"], b"option fault 4 at word 0\n"),
+    (
+        &["a.pov", "+W8192", "+H2049"],
+        b"option fault 4 at word 0\n",
+    ),
     (&["+I"], b"option fault 3 at word 1\n"),
     (&["a.pov", "+O"], b"option fault 3 at word 2\n"),
     (&["a.pov", "-o", "+W0"], b"option fault 3 at word 2\n"),
@@ -49,7 +77,10 @@ const VALUES: [(&[&str], &[u8]); 26] = [
     (&["a.pov", "+W10000"], b"option fault 4 at word 2\n"),
     (&["a.pov", "+W65536"], b"option fault 4 at word 2\n"),
     (&["a.pov", "+W4294967297"], b"option fault 4 at word 2\n"),
-    (&["a.pov", "+W99999999999999999999"], b"option fault 4 at word 2\n"),
+    (
+        &["a.pov", "+W99999999999999999999"],
+        b"option fault 4 at word 2\n",
+    ),
     (&["a.pov", "+H0"], b"option fault 4 at word 2\n"),
     (&["a.pov", "+H0000"], b"option fault 4 at word 2\n"),
     (&["a.pov", "+H8193"], b"option fault 4 at word 2\n"),
@@ -62,7 +93,10 @@ const VALUES: [(&[&str], &[u8]); 26] = [
     (&["a.pov", "+W 1"], b"option fault 2 at word 2\n"),
     (&["a.pov", "+Hx"], b"option fault 2 at word 2\n"),
     (&["a.pov", "+H1e1"], b"option fault 2 at word 2\n"),
-    (&["a.pov", "+W99999999999999999999x"], b"option fault 2 at word 2\n"),
+    (
+        &["a.pov", "+W99999999999999999999x"],
+        b"option fault 2 at word 2\n",
+    ),
 ];
 
 /// Words that are refused, and what the sink is told: other switches, other words, and the order of refusals.
@@ -91,7 +125,10 @@ const SWITCHES: [(&[&str], &[u8]); 25] = [
     (&["/W1"], b"option fault 7 at word 1\n"),
     (&["+X", "+W0"], b"option fault 7 at word 1\n"),
     (&["+W0", "+X"], b"option fault 4 at word 1\n"),
-    (&["a.pov", "+W1", "+Hx", "+H0", "+I"], b"option fault 2 at word 3\n"),
+    (
+        &["a.pov", "+W1", "+Hx", "+H0", "+I"],
+        b"option fault 2 at word 3\n",
+    ),
 ];
 
 #[test]
@@ -106,7 +143,11 @@ fn accepted_words_make_the_picture_file(rt: HostRuntime) -> Result<(), Fail> {
     Ok(())
 }
 
-fn are_refused(rt: &(impl Threads + Sync + Abort), alloc: Global, rows: &[(&[&str], &[u8])]) -> Result<(), AllocError> {
+fn are_refused(
+    rt: &(impl Threads + Sync + Abort),
+    alloc: Global,
+    rows: &[(&[&str], &[u8])],
+) -> Result<(), AllocError> {
     for (words, told) in rows {
         let left = rendered(rt, alloc, words, &TEXTS)?;
         assert_eq!(rt; left.told.bytes(), *told);
