@@ -125,9 +125,9 @@ count_spelled (part ∷ parts) (kind ∷ kinds) negative plain spelled =
     let p = plain_none part parts plain in
     by_bool (fits (mark_of part) kind)
     (λ e. let rest = rw e at spelled in
-        omega (arith, p.2, signed_length negative kind kinds, kind_count (mark_of part) kind e, count_spelled parts kinds (sign_of kind) p.0 rest))
+    omega (arith, p.2, signed_length negative kind kinds, kind_count (mark_of part) kind e, count_spelled parts kinds (sign_of kind) p.0 rest))
     (λ e. let rest = rw e at spelled in
-        omega (arith, p.2, p.1 rest.0, count_spelled parts (kind ∷ kinds) negative p.0 rest.1))
+    omega (arith, p.2, p.1 rest.0, count_spelled parts (kind ∷ kinds) negative p.0 rest.1))
 
 calm_sign : (sign byte : ℕ) → (if sign == 45 then false else true) ≡ true → (byte == sign) ≡ true → (byte == 45) ≡ false
 calm_sign sign byte calm e = grind (arith, nat_tests)
@@ -204,8 +204,8 @@ vector_behind step kinds behind k n is calm plain spelled =
     let one : n + 1 ≡ count_of (parts_of step) + (k + 1) = omega arith in
     let two : n + 2 ≡ count_of (parts_of step) + (k + 2) = omega arith in
     same_vector (ap (number_at (kinds ++ behind)) is ∙ number_behind step kinds behind k calm plain spelled)
-        (ap (number_at (kinds ++ behind)) one ∙ number_behind step kinds behind (k + 1) calm plain spelled)
-        (ap (number_at (kinds ++ behind)) two ∙ number_behind step kinds behind (k + 2) calm plain spelled)
+    (ap (number_at (kinds ++ behind)) one ∙ number_behind step kinds behind (k + 1) calm plain spelled)
+    (ap (number_at (kinds ++ behind)) two ∙ number_behind step kinds behind (k + 2) calm plain spelled)
 
 background_in_range : (written : List (List Kind)) → AreWritten (steps_of Item.Background) written → IsItemInRange Item.Background (joined written)
 background_in_range [] done = absurd done
@@ -213,8 +213,8 @@ background_in_range (a ∷ []) done = absurd done.2
 background_in_range (a ∷ b ∷ []) done = absurd done.2.2
 background_in_range (a ∷ b ∷ c ∷ written) done =
     let colour = vector_past (Step.Token (Mark.Word Keyword.Background)) a (joined (b ∷ c ∷ written)) 0 refl refl refl done.0
-        ∙ vector_past (Step.Token (Mark.Sign 123)) b (joined (c ∷ written)) 0 refl refl refl done.2.0
-        ∙ vector_within Step.Colour c (joined written) refl refl refl done.2.2.0 in
+    ∙ vector_past (Step.Token (Mark.Sign 123)) b (joined (c ∷ written)) 0 refl refl refl done.2.0
+    ∙ vector_within Step.Colour c (joined written) refl refl refl done.2.2.0 in
     ap (is_vector_between (pos 0) (pos 16777216)) colour ∙ done.2.2.1
 
 sphere_in_range : (written : List (List Kind)) → AreWritten (steps_of Item.Sphere) written → IsItemInRange Item.Sphere (joined written)
@@ -235,24 +235,25 @@ sphere_in_range (a ∷ b ∷ c ∷ d ∷ e ∷ f ∷ g ∷ h ∷ written) done =
     let behind_b = joined (c ∷ d ∷ e ∷ f ∷ g ∷ h ∷ written) in
     let behind_a = joined (b ∷ c ∷ d ∷ e ∷ f ∷ g ∷ h ∷ written) in
     let centre = vector_past (Step.Token (Mark.Word Keyword.Sphere)) a behind_a 0 refl refl refl done.0
-        ∙ vector_past (Step.Token (Mark.Sign 123)) b behind_b 0 refl refl refl done.2.0
-        ∙ vector_within Step.Point c behind_c refl refl refl done.2.2.0 in
+    ∙ vector_past (Step.Token (Mark.Sign 123)) b behind_b 0 refl refl refl done.2.0
+    ∙ vector_within Step.Point c behind_c refl refl refl done.2.2.0 in
     let radius = number_past (Step.Token (Mark.Word Keyword.Sphere)) a behind_a 3 refl refl refl done.0
-        ∙ number_past (Step.Token (Mark.Sign 123)) b behind_b 3 refl refl refl done.2.0
-        ∙ number_behind Step.Point c behind_c 0 refl refl done.2.2.0
-        ∙ number_past (Step.Token (Mark.Sign 44)) d behind_d 0 refl refl refl done.2.2.2.0
-        ∙ number_within Step.Radius e behind_e 0 refl refl done.2.2.2.2.0 (omega arith) in
+    ∙ number_past (Step.Token (Mark.Sign 123)) b behind_b 3 refl refl refl done.2.0
+    ∙ number_behind Step.Point c behind_c 0 refl refl done.2.2.0
+    ∙ number_past (Step.Token (Mark.Sign 44)) d behind_d 0 refl refl refl done.2.2.2.0
+    ∙ number_within Step.Radius e behind_e 0 refl refl done.2.2.2.2.0 (omega arith) in
     let colour = vector_past (Step.Token (Mark.Word Keyword.Sphere)) a behind_a 4 refl refl refl done.0
-        ∙ vector_past (Step.Token (Mark.Sign 123)) b behind_b 4 refl refl refl done.2.0
-        ∙ vector_behind Step.Point c behind_c 1 4 refl refl refl done.2.2.0
-        ∙ vector_past (Step.Token (Mark.Sign 44)) d behind_d 1 refl refl refl done.2.2.2.0
-        ∙ vector_behind Step.Radius e behind_e 0 1 refl refl refl done.2.2.2.2.0
-        ∙ vector_past (Step.Token (Mark.Word Keyword.Pigment)) f behind_f 0 refl refl refl done.2.2.2.2.2.0
-        ∙ vector_past (Step.Token (Mark.Sign 123)) g behind_g 0 refl refl refl done.2.2.2.2.2.2.0
-        ∙ vector_within Step.Colour h (joined written) refl refl refl done.2.2.2.2.2.2.2.0 in
-    (ap (is_vector_between (neg_ℤ (pos 268435456)) (pos 268435456)) centre ∙ done.2.2.1,
-        ap (is_between (pos 0) (pos 268435456)) radius ∙ done.2.2.2.2.1,
-        ap (is_vector_between (pos 0) (pos 16777216)) colour ∙ done.2.2.2.2.2.2.2.1)
+    ∙ vector_past (Step.Token (Mark.Sign 123)) b behind_b 4 refl refl refl done.2.0
+    ∙ vector_behind Step.Point c behind_c 1 4 refl refl refl done.2.2.0
+    ∙ vector_past (Step.Token (Mark.Sign 44)) d behind_d 1 refl refl refl done.2.2.2.0
+    ∙ vector_behind Step.Radius e behind_e 0 1 refl refl refl done.2.2.2.2.0
+    ∙ vector_past (Step.Token (Mark.Word Keyword.Pigment)) f behind_f 0 refl refl refl done.2.2.2.2.2.0
+    ∙ vector_past (Step.Token (Mark.Sign 123)) g behind_g 0 refl refl refl done.2.2.2.2.2.2.0
+    ∙ vector_within Step.Colour h (joined written) refl refl refl done.2.2.2.2.2.2.2.0 in (
+      ap (is_vector_between (neg_ℤ (pos 268435456)) (pos 268435456)) centre ∙ done.2.2.1,
+      ap (is_between (pos 0) (pos 268435456)) radius ∙ done.2.2.2.2.1,
+      ap (is_vector_between (pos 0) (pos 16777216)) colour ∙ done.2.2.2.2.2.2.2.1,
+    )
 
 pub item_in_range : (item : Item) (written : List (List Kind)) → AreWritten (steps_of item) written → IsItemInRange item (joined written)
 item_in_range Item.Background written done = background_in_range written done

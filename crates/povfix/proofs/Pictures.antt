@@ -62,23 +62,34 @@ some_at (x ∷ xs) (suc k) P Q d some is q = some_at xs k P Q d some is q
 
 hit_painted : (balls : List Ball) (ray : Ray) (t object : ℕ) → IsHit ball_holds balls ray 63 t object → IsBallHit (map painted_of balls) ray t object
 hit_painted balls ray t object hit = record {
-    origin = hit.origin; place = hit.place; near = hit.near; behind = hit.behind;
-    struck = some_map painted_of balls object (λ p. IsStruck (holds_at p) ray t) hit.struck }
+  origin = hit.origin;
+  place = hit.place;
+  near = hit.near;
+  behind = hit.behind;
+  struck = some_map painted_of balls object (λ p. IsStruck (holds_at p) ray t) hit.struck;
+}
 
 painted_hit : (balls : List Ball) (ray : Ray) (t object : ℕ) → IsBallHit (map painted_of balls) ray t object → IsHit ball_holds balls ray 63 t object
 painted_hit balls ray t object hit = record {
-    origin = hit.origin; place = hit.place; near = hit.near; behind = hit.behind;
-    struck = map_some painted_of balls object (λ p. IsStruck (holds_at p) ray t) hit.struck }
+  origin = hit.origin;
+  place = hit.place;
+  near = hit.near;
+  behind = hit.behind;
+  struck = map_some painted_of balls object (λ p. IsStruck (holds_at p) ray t) hit.struck;
+}
 
 pub shows_ball : (background : V3) (balls : List Ball) (ray : Ray) (hit : Hit) (ball : Ball) → IsNearest (IsHit ball_holds balls ray 63) hit → ball ≡ get_or balls hit.object ball → Shows (record { background = background; balls = map painted_of balls }) ray ball.colour
 shows_ball background balls ray hit ball nearest is =
-    inl (hit,
-        record {
-            found = hit_painted balls ray hit.t hit.object nearest.found;
-            nearest = λ t object other. nearest.nearest t object (painted_hit balls ray t object other);
-            first = λ object other. nearest.first object (painted_hit balls ray hit.t object other) },
-        some_map painted_of balls hit.object (λ p. ball.colour ≡ p.colour)
-            (some_at balls hit.object (λ b. IsStruck (ball_holds b) ray hit.t) (λ b. ball.colour ≡ b.colour) ball nearest.found.struck is refl))
+    inl (
+      hit,
+      record {
+        found = hit_painted balls ray hit.t hit.object nearest.found;
+        nearest = λ t object other. nearest.nearest t object (painted_hit balls ray t object other);
+        first = λ object other. nearest.first object (painted_hit balls ray hit.t object other);
+      },
+      some_map painted_of balls hit.object (λ p. ball.colour ≡ p.colour)
+          (some_at balls hit.object (λ b. IsStruck (ball_holds b) ray hit.t) (λ b. ball.colour ≡ b.colour) ball nearest.found.struck is refl),
+    )
 
 pub shows_background : (background : V3) (balls : List Ball) (ray : Ray) → ((t object : ℕ) → IsHit ball_holds balls ray 63 t object → ⊥) → Shows (record { background = background; balls = map painted_of balls }) ray background
 shows_background background balls ray none = inr ((λ t object hit. none t object (painted_hit balls ray t object hit)), refl)
@@ -105,15 +116,17 @@ pub record Pixels (drawn : Drawn) (width height count : ℕ) (bytes : List ℕ) 
   pub pixels : (k : ℕ) → k < count → (colour : V3) × Shows drawn (pixel_ray_of width height (k % width) (k / width)) colour × (take 3 (drop (3 * k) bytes) ≡ bytes_of colour)
 
 pixel_at : (drawn : Drawn) (width height : ℕ) (bytes : List ℕ) (count : ℕ) (colour : V3) → length bytes ≡ 3 * count → Shows drawn (pixel_ray_of width height (count % width) (count / width)) colour → (k : ℕ) → k ≡ count → (c : V3) × Shows drawn (pixel_ray_of width height (k % width) (k / width)) c × (take 3 (drop (3 * k) (bytes ++ bytes_of colour)) ≡ bytes_of c)
-pixel_at drawn width height bytes count colour size shown k is =
-    (colour,
-        subst (λ n. Shows drawn (pixel_ray_of width height (n % width) (n / width)) colour) (sym is) shown,
-        pixel_here bytes (bytes_of colour) k (size ∙ ap (λ n. 3 * n) (sym is)) refl)
+pixel_at drawn width height bytes count colour size shown k is = (
+  colour,
+  subst (λ n. Shows drawn (pixel_ray_of width height (n % width) (n / width)) colour) (sym is) shown,
+  pixel_here bytes (bytes_of colour) k (size ∙ ap (λ n. 3 * n) (sym is)) refl,
+)
 
 pub next_pixels : (drawn : Drawn) (width height : ℕ) (bytes : List ℕ) (count : ℕ) (colour : V3) → length bytes ≡ 3 * count → ((k : ℕ) → k < count → (c : V3) × Shows drawn (pixel_ray_of width height (k % width) (k / width)) c × (take 3 (drop (3 * k) bytes) ≡ bytes_of c)) → Shows drawn (pixel_ray_of width height (count % width) (count / width)) colour → Pixels drawn width height (count + 1) (bytes ++ bytes_of colour)
 next_pixels drawn width height bytes count colour size pixels shown = record {
-    size = omega (arith, size, length-append bytes (bytes_of colour));
-    pixels = λ k lt. ⊎_elim
-        (λ (low : k < count). let pixel = pixels k low in (pixel.0, pixel.1, pixel_before bytes (bytes_of colour) k (omega (arith, size)) ∙ pixel.2))
-        (λ (high : count ≤ k). pixel_at drawn width height bytes count colour size shown k (omega arith))
-        (cases_lt k count) }
+  size = omega (arith, size, length-append bytes (bytes_of colour));
+  pixels = λ k lt. ⊎_elim
+      (λ (low : k < count). let pixel = pixels k low in (pixel.0, pixel.1, pixel_before bytes (bytes_of colour) k (omega (arith, size)) ∙ pixel.2))
+      (λ (high : count ≤ k). pixel_at drawn width height bytes count colour size shown k (omega arith))
+      (cases_lt k count);
+}

@@ -27,10 +27,7 @@ fn offset(extent: i64, place: i64, size: u32) -> Fix
     requires place_small { unsigned_abs place ≤ size }
     ensures { result ≡ offset_of extent place size }
 {
-    Fix::from_known(rounded(
-        i128::from(extent) * i128::from(place),
-        2 * i128::from(size),
-    ))
+    Fix::from_known(rounded(i128::from(extent) * i128::from(place), 2 * i128::from(size)))
 }
 
 /// How far a pixel is from the middle of a row or column of so many, in halves of a pixel.

@@ -10,10 +10,10 @@ ghost use Rattle.scene_lexer.specs.Tokens.{tokens_of};
 use crate::frame_trace::draw;
 use crate::options::Plan;
 use crate::outcome::Fault;
-use crate::parser::{parse, Refusal};
+use crate::parser::{Refusal, parse};
 use crate::scene::Scene;
 use image_out::{Picture, Sort, put, room};
-use scene_lexer::{lex, LexFault, Place, Token};
+use scene_lexer::{LexFault, Place, Token, lex};
 use std::alloc::{AllocError, Global};
 
 /// The start of the first text.

@@ -90,7 +90,13 @@ fn frame<T: Texts, S: Shelf>(alloc: Global, plan: &Plan, texts: &mut T, shelf: &
 }
 
 /// Tells how the run ends.
-fn finish<S: Shelf, K: Sink>(alloc: Global, shelf: S, messages: &mut K, scene: &[u8], fault: Fault) -> Outcome<S>
+fn finish<S: Shelf, K: Sink>(
+    alloc: Global,
+    shelf: S,
+    messages: &mut K,
+    scene: &[u8],
+    fault: Fault,
+) -> Outcome<S>
     ensures shelf { result.shelf ≡ shelf }
     ensures said { Says (K.written messages.old) (K.written messages.new) (K.faults messages.old) (K.faults messages.new) (line_of scene.now result.fault) }
     ensures fault { (result.fault ≡ fault) ⊎ ((result.fault ≡ Fault.NoMemory) × IsPlaced fault) }

@@ -48,7 +48,12 @@ fn push_where(alloc: Global, line: &mut Vec<u8>, place: Where) -> Result<(), All
 }
 
 /// Puts the place in the scene text and the line feed after what the line says.
-fn end_with_place(alloc: Global, line: &mut Vec<u8>, scene: &[u8], number: u32) -> Result<(), AllocError>
+fn end_with_place(
+    alloc: Global,
+    line: &mut Vec<u8>,
+    scene: &[u8],
+    number: u32,
+) -> Result<(), AllocError>
     ensures { OnOk result (line.new.items ≡ line.old.items ++ place_end scene.now number) }
 {
     line.extend_from_slice(b" at ")?;
@@ -70,7 +75,13 @@ fn option_line(alloc: Global, kind: u8, place: Where) -> Result<Vec<u8>, AllocEr
     Ok(line)
 }
 
-fn scene_line(alloc: Global, scene: &[u8], letter: u8, kind: u8, number: u32) -> Result<Vec<u8>, AllocError>
+fn scene_line(
+    alloc: Global,
+    scene: &[u8],
+    letter: u8,
+    kind: u8,
+    number: u32,
+) -> Result<Vec<u8>, AllocError>
     ensures { IfOk result (λ line. line.items ≡ scene_line scene.now letter kind number) }
 {
     let mut line = Vec::new(alloc);

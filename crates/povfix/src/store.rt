@@ -7,7 +7,12 @@ use shelf::{Failed, HoldFail, Shelf};
 use std::alloc::Global;
 
 /// Writes a file, cuts it to its length and syncs it.
-pub fn store<S: Shelf>(alloc: Global, shelf: &mut S, name: &[u8], file: &[u8]) -> Result<(), HoldFail>
+pub fn store<S: Shelf>(
+    alloc: Global,
+    shelf: &mut S,
+    name: &[u8],
+    file: &[u8],
+) -> Result<(), HoldFail>
     ensures stored { OnOk result ((c : List ℕ) → S.holds shelf.new name.now c → c ≡ file.now) }
     ensures memory { IsErrOf result HoldFail.NoMemory → SameContents (S.holds shelf.old) (S.holds shelf.new) }
     ensures others { SameOthers name.now (S.holds shelf.old) (S.holds shelf.new) }

@@ -3,9 +3,8 @@
 
 use povfix::{FolderTexts, run};
 use shelf::{FolderShelf, Sink, StdSink};
-use std::env;
-use std::io;
 use std::process::ExitCode;
+use std::{env, io};
 
 /// The status where a word isn't UTF-8.
 const BAD_WORD: u8 = 1;

@@ -7,17 +7,19 @@ use Rattle.povfix.proofs.frame_trace.draw.Goals as goal
 pub loop-pixel-preserved : goal.loop-pixel-preserved
 loop-pixel-preserved c =
     let bytes : c.channel_byte.result ∷ c.channel_byte-in-loop-pixel.result ∷ c.channel_byte-in-loop-pixel-2.result ∷ [] ≡ bytes_of c.colour_of-colour.result =
-        rw (c.channel_byte.ensures, c.channel_byte-in-loop-pixel.ensures, c.channel_byte-in-loop-pixel-2.ensures) in
+    rw (c.channel_byte.ensures, c.channel_byte-in-loop-pixel.ensures, c.channel_byte-in-loop-pixel-2.ensures) in
     let shown = subst (λ ray. Shows (drawn_of c.args.scene.now) ray c.colour_of-colour.result) c.pixel_ray-ray.ensures.value c.colour_of-colour.ensures.shown in
     let all = c.in_ok-extend_from_slice.ensures.items ∙ ap (λ more. c.loop-pixel.picture.items ++ more) bytes in
     let next = next_pixels (drawn_of c.args.scene.now) c.args.width c.args.height c.loop-pixel.picture.items c.loop-pixel.pixel c.colour_of-colour.result c.loop-pixel.invariant.size c.loop-pixel.invariant.pixels shown in
     record {
-        size = ap length all ∙ next.size;
-        pixels = λ k lt. let pixel = next.pixels k lt in (pixel.0, pixel.1, ap (λ bs. take 3 (drop (3 * k) bs)) all ∙ pixel.2) }
+      size = ap length all ∙ next.size;
+      pixels = λ k lt. let pixel = next.pixels k lt in (pixel.0, pixel.1, ap (λ bs. take 3 (drop (3 * k) bs)) all ∙ pixel.2);
+    }
 
 pub returns : goal.returns
 returns c =
     let end : c.loop-pixel.pixel ≡ c.args.width * c.args.height = omega (arith, c.loop-pixel-test.false, c.loop-pixel.auto.pixel-end) in
     record {
-        size = c.loop-pixel.invariant.size ∙ ap (λ n. 3 * n) end;
-        pixels = λ k lt. c.loop-pixel.invariant.pixels k (omega (arith, end)) }
+      size = c.loop-pixel.invariant.size ∙ ap (λ n. 3 * n) end;
+      pixels = λ k lt. c.loop-pixel.invariant.pixels k (omega (arith, end));
+    }

@@ -8,5 +8,5 @@ use Rattle.povfix.proofs.frame_trace.draw.Given as goal
 abbrev pub invariant-loop-pixel : goal.invariant-loop-pixel
 invariant-loop-pixel l = record {
   size : length l.picture.items ≡ 3 * l.pixel;
-  pixels : (k : ℕ) → k < l.pixel → (colour : V3) × Shows (drawn_of l.scene) (pixel_ray_of l.width l.height (k % l.width) (k / l.width)) colour × (take 3 (drop (3 * k) l.picture.items) ≡ bytes_of colour)
+  pixels : (k : ℕ) → k < l.pixel → (colour : V3) × Shows (drawn_of l.scene) (pixel_ray_of l.width l.height (k % l.width) (k / l.width)) colour × (take 3 (drop (3 * k) l.picture.items) ≡ bytes_of colour);
 }

@@ -40,4 +40,4 @@ add-requires c =
     let kinds = kinds_of c.args.tokens.now in
     subst (IsItemInRange c.in-Some.item) (sym (kinds_range c.args.tokens.now c.loop-at.at c.in-Ok.end))
     (item_read_in_range kinds c.loop-at.at c.in-Ok.end c.in-Some.item c.in-Ok.ensures.within.0 (omega (arith, kinds_length c.args.tokens.now, c.in-Ok.ensures.within.1))
-        (ap (λ steps. read_steps steps (drop c.loop-at.at kinds)) (sym c.steps.ensures) ∙ c.in-Ok.ensures.value))
+    (ap (λ steps. read_steps steps (drop c.loop-at.at kinds)) (sym c.steps.ensures) ∙ c.in-Ok.ensures.value))
