@@ -1,5 +1,5 @@
 -- Packets that are read, one after another.
-use Rattle.std.proofs.Common.{◌≡◌, ◌≢◌, ◌⊎◌, ◌+◌, ◌-◌, ◌*◌, ◌/◌, ◌%◌, ◌<◌, ◌≤◌, ℕ, zero, suc, Bool, true, false, List, [], ◌∷◌, ◌++◌, length, take, drop, get_or, refl, ap, sym, subst, ◌∙◌, ⊎_elim, arith, rules, append_assoc, append-nil, length-append, length-take, length-drop, take-append-drop, All, map, if◌then◌else◌}
+use Rattle.std.proofs.Common.{◌≡◌, ◌+◌, ◌-◌, ◌*◌, ◌<◌, ◌≤◌, ℕ, zero, suc, false, List, [], ◌∷◌, ◌++◌, length, take, drop, get_or, refl, ap, sym, ◌∙◌, arith, append_assoc, append-nil, length-append, take-append-drop, All, map, if◌then◌else◌}
 use Rattle.std.specs.List.{flat_map, repeat}
 use Rattle.std.proofs.Math.ListN.{replicate}
 use Rattle.std.proofs.lemmas.List.{length-replicate, length-map}
@@ -13,7 +13,7 @@ use Rattle.image_out.specs.declared.unpack.RleFault.{RleFault}
 use Rattle.image_out.specs.declared.unpack.RleFault.TheVariants.{Short, PastRow, Long, NoMemory}
 use Rattle.image_out.specs.Pixels.{Pixel, turned}
 use Rattle.image_out.specs.Packets.{Packet, Run, Raw, IsPacket, packet_pixels, packet_bytes, pixel_count, row_bytes}
-use Rattle.image_out.specs.Unpacking.{pixels_in, IsRow, Unpacks, ReadsPacket, ReadsPart, ReadsPicture, IsPart, AreRows, turned_rows, count_of, body_length, IsFault, IsRowFault}
+use Rattle.image_out.specs.Unpacking.{pixels_in, IsRow, Unpacks, ReadsPacket, ReadsPart, ReadsPicture, AreRows, count_of, IsFault, IsRowFault}
 
 -- so many whole rows are read, and the rest is left
 abbrev pub RowsRead : ℕ → ℕ → List ℕ → List ℕ → List ℕ → Type 0
