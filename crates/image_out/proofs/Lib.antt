@@ -1,3 +1,4 @@
+pub mod ExactLemmas
 pub mod FileLemmas
 pub mod PacketLemmas
 pub mod PixelLemmas

@@ -1,5 +1,5 @@
 -- Packets that are read, one after another.
-use Rattle.std.proofs.Common.{◌≡◌, ◌≢◌, ◌⊎◌, ◌+◌, ◌-◌, ◌*◌, ◌/◌, ◌%◌, ◌<◌, ◌≤◌, ℕ, zero, suc, Bool, true, false, List, [], ◌∷◌, ◌++◌, length, take, drop, get_or, refl, ap, sym, subst, ◌∙◌, ⊎_elim, arith, rules, append_assoc, append-nil, length-append, length-take, length-drop, take-append-drop, All, map, if◌then◌else◌}
+use Rattle.std.proofs.Common.{◌≡◌, ◌+◌, ◌-◌, ◌*◌, ◌<◌, ◌≤◌, ℕ, zero, suc, false, List, [], ◌∷◌, ◌++◌, length, take, drop, get_or, refl, ap, sym, ◌∙◌, subst, arith, append_assoc, append-nil, length-append, take-append-drop, All, map, if◌then◌else◌}
 use Rattle.std.specs.List.{flat_map, repeat}
 use Rattle.std.proofs.Math.ListN.{replicate}
 use Rattle.std.proofs.lemmas.List.{length-replicate, length-map}
@@ -13,7 +13,7 @@ use Rattle.image_out.specs.declared.unpack.RleFault.{RleFault}
 use Rattle.image_out.specs.declared.unpack.RleFault.TheVariants.{Short, PastRow, Long, NoMemory}
 use Rattle.image_out.specs.Pixels.{Pixel, turned}
 use Rattle.image_out.specs.Packets.{Packet, Run, Raw, IsPacket, packet_pixels, packet_bytes, pixel_count, row_bytes}
-use Rattle.image_out.specs.Unpacking.{pixels_in, IsRow, Unpacks, ReadsPacket, ReadsPart, ReadsPicture, IsPart, AreRows, turned_rows, count_of, body_length, IsFault, IsRowFault}
+use Rattle.image_out.specs.Unpacking.{pixels_in, IsRow, Unpacks, ReadsPacket, ReadsPart, ReadsPicture, AreRows, count_of, IsFault, IsRowFault}
 
 -- so many whole rows are read, and the rest is left
 abbrev pub RowsRead : ℕ → ℕ → List ℕ → List ℕ → List ℕ → Type 0
@@ -77,7 +77,7 @@ run_read left head body (b ∷ g ∷ r ∷ []) rest old new large top fits e l q
     }
 
 -- as many pixels as the count
-length-packet : (p : Packet) → length (packet_pixels p) ≡ pixel_count p
+pub length-packet : (p : Packet) → length (packet_pixels p) ≡ pixel_count p
 length-packet (Run n p) = length-replicate n p
 length-packet (Raw ps) = refl
 
@@ -185,3 +185,8 @@ row_fault width height count bytes rest out Short above less f = (above.0, count
 row_fault width height count bytes rest out PastRow above less f = (above.0, count, rest, above.1, less, f)
 row_fault width height count bytes rest out Long above less f = absurd f.5
 row_fault width height count bytes rest out NoMemory above less f = tt
+
+-- all rows are read, and bytes are left
+pub long_read : (width height count : ℕ) (bytes rest out : List ℕ) → RowsRead width count bytes rest out → count ≡ height → 0 < length rest → IsFault width height bytes Long
+long_read width height count bytes rest out read e some =
+    (read.0, rest, subst (λ n. AreRows width n bytes rest read.0) e read.1, some)

@@ -1,13 +1,13 @@
 -- The packets of a row unpack to it.
-use Rattle.std.proofs.Common.{◌≡◌, ◌+◌, ◌-◌, ◌*◌, ◌/◌, ◌<◌, ◌≤◌, ℕ, zero, suc, Bool, true, false, min, List, [], ◌∷◌, ◌++◌, ◌==◌, ◌&&◌, length, take, drop, refl, ap, sym, subst, ◌∙◌, ⊎_elim, arith, rules, append_assoc, length-append, length-take, length-drop, All, if◌then◌else◌}
-use Rattle.std.specs.List.{flat_map, prefix_len}
+use Rattle.std.proofs.Common.{◌≡◌, ◌+◌, ◌-◌, ◌*◌, ◌/◌, ◌≤◌, ℕ, zero, suc, Bool, true, false, min, List, [], ◌∷◌, ◌++◌, ◌==◌, ◌&&◌, length, take, drop, refl, ap, sym, subst, ◌∙◌, ⊎_elim, arith, append_assoc, length-append, length-drop, All, if◌then◌else◌}
+use Rattle.std.specs.List.{prefix_len}
 use Rattle.std.proofs.Math.ListN.{replicate}
 use Rattle.std.proofs.lemmas.Bool.{cases_lt, and_parts, eqb-true}
 use Rattle.std.proofs.Common.{take-append-drop}
 use Rattle.std.proofs.lemmas.List.{length-take-le}
 use Rattle.std.proofs.lemmas.List.Elements.{All-cons}
 use Rattle.image_out.specs.Pixels.{Pixel, is_same, pixels_of, rows_of}
-use Rattle.image_out.specs.Packets.{Packet, Run, Raw, IsPacket, packet_pixels, pixel_count, packet_here, packets_from, packets_of, alike_here, unlike, row_bytes, packed}
+use Rattle.image_out.specs.Packets.{Packet, IsPacket, packet_pixels, pixel_count, packet_here, packets_from, packets_of, alike_here, unlike, packed}
 use Rattle.std.proofs.Math.Seq.{drop-append_seam}
 use Rattle.image_out.specs.declared.picture.Sort.{Sort}
 use Rattle.image_out.specs.declared.picture.Sort.TheVariants.{TargaRle}
@@ -15,8 +15,8 @@ use Rattle.image_out.specs.Sizes.{HasDepth, picture_length}
 use Rattle.image_out.specs.Files.{file_of, targa_header}
 use Rattle.image_out.proofs.PixelLemmas.{whole_of}
 use Rattle.image_out.proofs.FileLemmas.{length-targa}
-use Rattle.image_out.specs.Unpacking.{pixels_in, IsRow, Unpacks}
-use Rattle.image_out.proofs.PacketLemmas.{Fits, unlike-le, packet_fits, run_here, raw_here, packets_first}
+use Rattle.image_out.specs.Unpacking.{pixels_in, Unpacks}
+use Rattle.image_out.proofs.PacketLemmas.{unlike-le, packet_fits, run_here, raw_here}
 
 -- pixels with the same samples are one
 same_is : (p q : Pixel) → is_same p q ≡ true → p ≡ q

@@ -1,8 +1,8 @@
 -- Run-length packets. (Truevision TGA 2.0, image types 9 to 11)
-use Rattle.std.specs.Prelude.{ℕ, zero, suc, ◌+◌, ◌-◌, ◌≤◌, min, Bool, nat_lt, if◌then◌else◌, List, [], ◌∷◌, ◌++◌, length, take}
+use Rattle.std.specs.Prelude.{ℕ, zero, suc, ◌+◌, ◌-◌, ◌≤◌, min, nat_lt, if◌then◌else◌, List, [], ◌∷◌, length, take}
 use Rattle.std.specs.List.{flat_map, prefix_len}
 use Rattle.std.proofs.Math.ListN.{replicate}
-use Rattle.image_out.specs.Pixels.{Pixel, is_same, turned, rows_of}
+use Rattle.image_out.specs.Pixels.{Pixel, is_same, turned}
 
 -- so many times one pixel, or pixels one after another
 pub data Packet : Type 0 where

@@ -1,6 +1,5 @@
 -- Pixels, as three samples each.
 use Rattle.std.specs.Prelude.{ℕ, zero, suc, ◌+◌, ◌*◌, ◌≡◌, Bool, ◌==◌, ◌&&◌, List, [], ◌∷◌, length, take, drop, slice_index}
-use Rattle.std.specs.List.{flat_map}
 
 pub record Pixel : Type 0 where
   pub red : ℕ

@@ -1,5 +1,5 @@
 -- What packets unpack to. (Truevision TGA 2.0, image types 9 to 11)
-use Rattle.std.specs.Prelude.{ℕ, ◌≡◌, ◌+◌, ◌*◌, ◌%◌, ◌<◌, ◌≤◌, nat_lt, if◌then◌else◌, List, [], ◌∷◌, ◌++◌, length, All}
+use Rattle.std.specs.Prelude.{ℕ, ◌≡◌, ◌⊎◌, ◌+◌, ◌*◌, ◌%◌, ◌<◌, ◌≤◌, nat_lt, if◌then◌else◌, List, [], ◌∷◌, ◌++◌, length, All}
 use Rattle.std.specs.List.{flat_map}
 use Rattle.image_out.specs.declared.unpack.RleFault.{RleFault}
 use Rattle.image_out.specs.declared.unpack.RleFault.TheVariants.{Short, PastRow, Long, NoMemory}
@@ -78,6 +78,10 @@ IsFault width height bytes PastRow = HasRowFault width height bytes PastRow
 IsFault width height bytes Long =
     (rows : List (List Packet)) × (rest : List ℕ) × AreRows width height bytes rest rows × (0 < length rest)
 IsFault width height bytes NoMemory = Unit {0}
+
+-- two faults of the same bytes are one, but memory may lack
+abbrev pub IsOneFault : RleFault → RleFault → Type 0
+IsOneFault f g = (f ≡ g) ⊎ ((f ≡ NoMemory) ⊎ (g ≡ NoMemory))
 
 -- rows with each pixel in the order blue, green, red
 abbrev pub turned_rows : List (List Pixel) → List ℕ

@@ -1,7 +1,7 @@
 // Run-length packets, read.
-ghost use Rattle.std.specs.Prelude.{◌≡◌, ◌++◌, IfOk, IfErr, OnOk};
+ghost use Rattle.std.specs.Prelude.{◌≡◌, ◌++◌, ℕ, List, IfOk, IfErr, OnOk, MatchResult};
 ghost use Rattle.std.specs.List.{repeat};
-ghost use Rattle.image_out.specs.Unpacking.{IsFault, IsPacketFault, IsRowFault, ReadsPacket, ReadsPart, ReadsPicture};
+ghost use Rattle.image_out.specs.Unpacking.{IsFault, IsOneFault, IsPacketFault, IsRowFault, ReadsPacket, ReadsPart, ReadsPicture};
 
 use std::alloc::{AllocError, Global};
 
@@ -24,6 +24,10 @@ pub fn read_rle(alloc: Global, bytes: &[u8], width: u32, height: u32) -> Result<
     ensures unpacked { IfOk result (λ triples.
         ReadsPicture width height bytes.now triples.items) }
     ensures fault { IfErr result (λ fault. IsFault width height bytes.now fault) }
+    ensures every_picture { (triples : List ℕ) → ReadsPicture width height bytes.now triples →
+        MatchResult result (λ found. found.items ≡ triples) (λ fault. fault ≡ RleFault.NoMemory) }
+    ensures every_fault { (fault : RleFault) → IsFault width height bytes.now fault →
+        MatchResult result (λ _. fault ≡ RleFault.NoMemory) (λ found. IsOneFault found fault) }
 {
     let mut out = Vec::new(alloc);
     let mut rest = bytes;

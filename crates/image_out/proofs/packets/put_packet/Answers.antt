@@ -1,9 +1,9 @@
 -- The packet that the row begins with.
-use Rattle.std.proofs.Common.{◌≡◌, ◌+◌, ◌*◌, ◌≤◌, ◌++◌, ◌∙◌, length, take, min, ap, sym, subst, arith, length-take}
+use Rattle.std.proofs.Common.{◌++◌, ◌∙◌, ap, sym, subst, arith, length-take}
 use Rattle.image_out.specs.Pixels.{pixels_of, pixel_at, IsWhole}
-use Rattle.image_out.specs.Packets.{Run, Raw, packet_bytes, packet_here, pixel_count}
+use Rattle.image_out.specs.Packets.{Run, Raw, packet_bytes, pixel_count}
 use Rattle.image_out.proofs.PixelLemmas.{take_pixels, whole_take, pixel_front}
-use Rattle.image_out.proofs.PacketLemmas.{packet_there, raw_some, raw_within, put_raw_here, put_run_here, Fits}
+use Rattle.image_out.proofs.PacketLemmas.{raw_some, raw_within, put_raw_here, put_run_here}
 use Rattle.image_out.proofs.packets.put_packet.Goals as goal
 
 pub returns-then-run-gt1-clause-count : goal.returns-then-run-gt1-clause-count

@@ -1,5 +1,5 @@
 -- One packet more at each step.
-use Rattle.std.proofs.Common.{◌≡◌, ◌+◌, ◌*◌, ◌≤◌, ◌++◌, ◌∙◌, length, drop, ap, sym, subst, arith, length-drop}
+use Rattle.std.proofs.Common.{◌≤◌, ◌++◌, ◌∙◌, length, ap, sym, subst, arith, length-drop}
 use Rattle.image_out.specs.Pixels.{pixels_of, IsWhole}
 use Rattle.image_out.specs.Packets.{packets_of, row_bytes}
 use Rattle.image_out.proofs.PixelLemmas.{drop_pixels, whole_drop}

@@ -1,7 +1,5 @@
 -- One row more at each step.
-use Rattle.std.proofs.Common.{◌≡◌, ◌+◌, ◌-◌, ◌*◌, ◌≤◌, ◌<◌, ◌++◌, ◌∙◌, suc, length, take, drop, ap, sym, subst, arith, length-drop}
-use Rattle.image_out.specs.Pixels.{pixels_of, rows_of, IsWhole}
-use Rattle.image_out.specs.Packets.{packed}
+use Rattle.std.proofs.Common.{◌≡◌, ◌+◌, ◌-◌, ◌∙◌, suc, arith}
 use Rattle.image_out.proofs.PixelLemmas.{whole_of}
 use Rattle.image_out.proofs.PacketLemmas.{products, rows_done, rows_more}
 use Rattle.image_out.proofs.packets.put_rows.Goals as goal

@@ -1,5 +1,5 @@
 -- One pixel more at each step, up to the last pixel or the next run.
-use Rattle.std.proofs.Common.{◌≡◌, ◌+◌, ◌<◌, length, sym, arith}
+use Rattle.std.proofs.Common.{◌+◌, ◌<◌, length, sym, arith}
 use Rattle.image_out.specs.Pixels.{pixels_of}
 use Rattle.image_out.proofs.PacketLemmas.{unlike_last, unlike_more, unlike_none}
 use Rattle.image_out.proofs.packets.raw_length.Goals as goal

@@ -1,5 +1,5 @@
 -- None of the pixels so far is like its right neighbour.
-use Rattle.std.proofs.Common.{◌≡◌, ◌+◌, ◌-◌, ◌≤◌, ◌<◌, ◌/◌, length, drop}
+use Rattle.std.proofs.Common.{◌≡◌, ◌+◌, ◌-◌, ◌≤◌, ◌<◌, length, drop}
 use Rattle.image_out.specs.Pixels.{pixels_of}
 use Rattle.image_out.specs.Packets.{unlike}
 use Rattle.image_out.proofs.packets.raw_length.Given as goal

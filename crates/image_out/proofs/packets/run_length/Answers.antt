@@ -1,7 +1,6 @@
 -- One pixel more at each step, and none at the end.
-use Rattle.std.proofs.Common.{◌≡◌, ◌+◌, ◌≤◌, ◌∙◌, zero, drop, length, sym, ap, arith}
-use Rattle.std.proofs.lemmas.List.Sums.{prefix_len-drop_all}
-use Rattle.image_out.specs.Pixels.{pixels_of, pixel_at, is_same}
+use Rattle.std.proofs.Common.{◌+◌, ◌≤◌, length, sym, arith}
+use Rattle.image_out.specs.Pixels.{pixels_of, pixel_at}
 use Rattle.image_out.proofs.PacketLemmas.{alike_first, alike_more, alike_none}
 use Rattle.image_out.proofs.packets.run_length.Goals as goal
 

@@ -1,5 +1,5 @@
 -- The pixels so far are like the first one.
-use Rattle.std.proofs.Common.{◌≡◌, ◌+◌, ◌-◌, ◌≤◌, ◌/◌, length, drop}
+use Rattle.std.proofs.Common.{◌≡◌, ◌+◌, ◌-◌, ◌≤◌, length, drop}
 use Rattle.std.specs.List.{prefix_len}
 use Rattle.image_out.specs.Pixels.{pixels_of, pixel_at, is_same}
 use Rattle.image_out.specs.Packets.{alike_here}

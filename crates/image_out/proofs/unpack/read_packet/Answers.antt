@@ -1,5 +1,5 @@
 -- A raw packet or a run.
-use Rattle.std.proofs.Common.{ℕ, ◌≡◌, ◌*◌, ◌≤◌, ◌<◌, ◌+◌, ◌-◌, ◌∷◌, ◌++◌, length, arith, ap, sym, subst, ◌∙◌, take, drop, get_or}
+use Rattle.std.proofs.Common.{◌≡◌, ◌*◌, ◌≤◌, ◌<◌, ◌-◌, ◌++◌, length, arith, ap, sym, subst, ◌∙◌, take, drop, get_or}
 use Rattle.std.specs.List.{repeat}
 use Rattle.image_out.specs.Unpacking.{ReadsPacket, count_of}
 use Rattle.image_out.proofs.ReadLemmas.{by_head, raw_read, repeated, run_read, split_is}

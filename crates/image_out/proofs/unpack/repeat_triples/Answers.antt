@@ -1,5 +1,5 @@
 -- Once more.
-use Rattle.std.proofs.Common.{ap, sym, ◌∙◌}
+use Rattle.std.proofs.Common.{sym}
 use Rattle.image_out.proofs.ReadLemmas.{appended, repeat_more}
 use Rattle.image_out.proofs.unpack.repeat_triples.Goals as goal
 
