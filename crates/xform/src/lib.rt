@@ -10,3 +10,6 @@ mod transform;
 pub use placing::{axis_frame, identity_frame, spot};
 pub use steps::{compose, point, start, then};
 pub use transform::{Frame, Spot, Step, Xform, XformFault};
+
+#[cfg(test)]
+mod tests;
