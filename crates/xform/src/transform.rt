@@ -38,7 +38,7 @@ pub enum XformFault {
 pub type Frame = [[i64; 3]; 3];
 
 /// An object's place: the image of its middle, and the ways between the world and the object's
-/// axes. n leads from the world, with e bits more than 0, and m back to it.
+/// axes. n leads from the world to them and has e fraction bits, m leads back and has 32.
 #[derive(Clone, Copy, Debug, PartialEq, Eq)]
 pub struct Spot {
     pub anchor: V3,
