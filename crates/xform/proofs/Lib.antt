@@ -1,0 +1,6 @@
+mod InverseLemmas
+mod SumLemmas
+mod ComposeLemmas
+mod DigitLemmas
+mod WithinLemmas
+mod SpotLemmas
