@@ -4,6 +4,8 @@
 #[cfg(test)]
 mod failures;
 #[cfg(test)]
+mod memory;
+#[cfg(test)]
 mod rig;
 #[cfg(test)]
 mod scenes;

@@ -12,6 +12,15 @@ pub struct Left {
     pub told: MemSink,
 }
 
+/// Words as the program gets them.
+pub fn asked(alloc: Global, words: &[&str]) -> Result<Vec<String>, AllocError> {
+    let mut asked = Vec::new(alloc);
+    for word in words {
+        asked.push(String::from_str(alloc, word)?)?;
+    }
+    Ok(asked)
+}
+
 /// Runs the words over texts by their names, storage without files, and a sink with room.
 pub fn rendered(
     rt: &(impl Threads + Sync),
@@ -19,10 +28,7 @@ pub fn rendered(
     words: &[&str],
     texts: &[(&str, &[u8])],
 ) -> Result<Left, AllocError> {
-    let mut asked = Vec::new(alloc);
-    for word in words {
-        asked.push(String::from_str(alloc, word)?)?;
-    }
+    let asked = asked(alloc, words)?;
     let mut held = MemTexts::new(alloc);
     for (name, bytes) in texts {
         held.add(alloc, name.as_bytes(), bytes)?;
