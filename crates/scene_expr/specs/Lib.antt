@@ -1,0 +1,14 @@
+pub mod Calls
+pub mod Colours
+pub mod Constants
+pub mod Grammar
+pub mod Heads
+pub mod Numbers
+pub mod OneValue
+pub mod Operators
+pub mod Steps
+pub mod Texts
+pub mod Then
+pub mod Values
+pub mod Vectors
+pub mod Words

@@ -1,0 +1,168 @@
+// What stands at a place among the tokens.
+ghost use Rattle.std.specs.Prelude.{◌≡◌, ◌≢◌, ◌≤◌, ◌<◌, IfOk, length};
+ghost use Rattle.scene_expr.specs.Heads.{place_at, sign_at, text_at, channel_at, component_at, sign_head, word_head, head_at, passed};
+
+use crate::operators::{Prefix, prefix_of};
+use crate::value::ExprFault;
+use crate::words::{
+    Call, Channel, ColourForm, Component, Constant, Word, channel_of, component_of, word_of,
+};
+use fix_math::Fix;
+use scene_lexer::{Kind, Place, Token};
+
+/// A token that opens a depth.
+#[derive(Clone, Copy)]
+pub enum Opener {
+    Prefix(Prefix),
+    /// `(`.
+    Bracket,
+    /// `<`.
+    Angle,
+    Call(Call),
+    /// `color` or `colour`.
+    Colour,
+    Form(ColourForm),
+    /// A number of a colour, by its word.
+    Channels,
+}
+
+/// What a factor begins with.
+#[derive(Clone, Copy)]
+pub enum Head {
+    Number(Fix),
+    Text,
+    Constant(Constant),
+    Opener(Opener),
+    /// A word that no expression begins with.
+    Unknown,
+    /// The end, or a sign that no expression begins with.
+    Nothing,
+}
+
+/// The place of a token, or the end of the last one.
+pub fn place_at(tokens: &[Token], at: usize) -> Place
+    ensures { result ≡ place_at tokens.now at }
+{
+    if let Some(token) = tokens.get(at) {
+        return token.place;
+    }
+    match tokens.last() {
+        Some(token) => Place {
+            file: token.place.file,
+            at: token.to,
+            line: token.place.line,
+        },
+        None => Place {
+            file: 0,
+            at: 0,
+            line: 1,
+        },
+    }
+}
+
+/// The code of the sign here; 0 for any other token and for the end.
+#[inline]
+pub fn sign_at(tokens: &[Token], at: usize) -> u8
+    ensures { result ≡ sign_at tokens.now at }
+{
+    match tokens.get(at) {
+        Some(token) => match token.kind {
+            Kind::Sign(code) => code,
+            _ => 0,
+        },
+        None => 0,
+    }
+}
+
+/// The bytes of the text here; none for any other token.
+pub fn text_at(tokens: &[Token], at: usize) -> &[u8]
+    ensures { result.now ≡ text_at tokens.now at }
+{
+    match tokens.get(at) {
+        Some(token) => match &token.kind {
+            Kind::Text(text) => text.bytes(),
+            _ => &[],
+        },
+        None => &[],
+    }
+}
+
+/// The number of a colour that the word here names.
+pub fn channel_at(tokens: &[Token], at: usize) -> Option<Channel>
+    ensures { result ≡ channel_at tokens.now at }
+{
+    match tokens.get(at) {
+        Some(token) => match &token.kind {
+            Kind::Word(name) => channel_of(name.bytes()),
+            _ => None,
+        },
+        None => None,
+    }
+}
+
+/// The component that the word here names.
+pub fn component_at(tokens: &[Token], at: usize) -> Option<Component>
+    ensures { result ≡ component_at tokens.now at }
+{
+    match tokens.get(at) {
+        Some(token) => match &token.kind {
+            Kind::Word(name) => component_of(name.bytes()),
+            _ => None,
+        },
+        None => None,
+    }
+}
+
+fn sign_head(sign: u8) -> Head
+    ensures { result ≡ sign_head sign }
+{
+    match sign {
+        b'(' => Head::Opener(Opener::Bracket),
+        b'<' => Head::Opener(Opener::Angle),
+        _ => match prefix_of(sign) {
+            Some(sign) => Head::Opener(Opener::Prefix(sign)),
+            None => Head::Nothing,
+        },
+    }
+}
+
+fn word_head(word: Option<Word>) -> Head
+    ensures { result ≡ word_head word }
+{
+    match word {
+        None => Head::Unknown,
+        Some(Word::Constant(constant)) => Head::Constant(constant),
+        Some(Word::Call(call)) => Head::Opener(Opener::Call(call)),
+        Some(Word::Colour) => Head::Opener(Opener::Colour),
+        Some(Word::Form(form)) => Head::Opener(Opener::Form(form)),
+        Some(Word::Channel(_)) => Head::Opener(Opener::Channels),
+    }
+}
+
+/// What the factor begins with that stands here.
+pub fn head_at(tokens: &[Token], at: usize) -> Head
+    ensures { result ≡ head_at tokens.now at }
+{
+    match tokens.get(at) {
+        Some(token) => match &token.kind {
+            Kind::Word(name) => word_head(word_of(name.bytes())),
+            Kind::Number(value) => Head::Number(*value),
+            Kind::Text(_) => Head::Text,
+            Kind::Sign(sign) => sign_head(*sign),
+        },
+        None => Head::Nothing,
+    }
+}
+
+/// The place behind the sign that has to stand here.
+pub fn passed(sign: u8, tokens: &[Token], at: usize) -> Result<usize, ExprFault>
+    requires { sign ≢ 0 }
+    ensures value { result ≡ passed sign tokens.now at }
+    ensures within { IfOk result (λ next. next ≤ length tokens.now) }
+{
+    if sign_at(tokens, at) == sign {
+        Ok(at + 1)
+    } else {
+        Err(ExprFault::Expected(place_at(tokens, at)))
+    }
+}
