@@ -1,13 +1,7 @@
 pub mod Lists
+pub mod Items
+pub mod OneScene
 pub mod OptionsLemmas
-pub mod Numbers
-pub mod ItemNumbers
-pub mod Tokens
-pub mod Parts
-pub mod Steps
-pub mod Scenes
-pub mod Faults
-pub mod Stops
 pub mod Storing
 pub mod Telling
 pub mod Counts
@@ -15,3 +9,4 @@ pub mod Meanings
 pub mod PlanSides
 pub mod Verdicts
 pub mod Pictures
+pub mod OneMeaning

@@ -10,22 +10,21 @@ use Rattle.povfix.specs.declared.outcome.Fault.TheVariants.{Done, OptionFault, S
 use Rattle.povfix.specs.declared.parser.Refusal.{Refusal}
 use Rattle.povfix.specs.declared.texts.Text.{Text}
 use Rattle.povfix.specs.Lines.{IsPlaced}
-use Rattle.povfix.specs.Grammar.{kinds_of, IsRefusal}
+use Rattle.povfix.specs.Grammar.{settings_of, IsScene}
 use Rattle.povfix.specs.Options.{plan_of}
 use Rattle.povfix.specs.Texts.{text_of, IsWithinLimit}
 use Rattle.povfix.specs.Verdict.{lexed_fault, parsed_fault, text_start, refused_fault, HasImage, IsCaused, IsFound, IsInner, IsLexed, IsMeaningless, IsParsed, IsPlanned, IsVerdict}
 use Rattle.povfix.proofs.PlanSides.{refusal_own}
-use Rattle.povfix.proofs.Scenes.{one_value_fault, scene_no_value_fault}
-use Rattle.povfix.proofs.Faults.{one_form_fault, scene_no_form_fault}
+use Rattle.povfix.proofs.OneScene.{one_scene}
 
 -- what a text comes to, in one of four ways
 data Comes (plan : Plan) (text : List ℕ) (fault : Fault) : Type 0 where
   drawn : HasImage plan text → fault ≡ Done → Comes plan text fault
   lexed : IsWithinLimit plan.input text → IsLexed text fault → Comes plan text fault
-  parsed : IsWithinLimit plan.input text → IsParsed text fault → Comes plan text fault
+  parsed : IsWithinLimit plan.input text → IsParsed plan text fault → Comes plan text fault
   long : (IsWithinLimit plan.input text → ⊥) → fault ≡ Limit 4 text_start → Comes plan text fault
 
-scene_comes : (plan : Plan) (text : List ℕ) (letter kind : ℕ) (place : Place) → IsWithinLimit plan.input text → IsMeaningless text (SceneFault letter kind place) → Comes plan text (SceneFault letter kind place)
+scene_comes : (plan : Plan) (text : List ℕ) (letter kind : ℕ) (place : Place) → IsWithinLimit plan.input text → IsMeaningless plan text (SceneFault letter kind place) → Comes plan text (SceneFault letter kind place)
 scene_comes plan text letter kind place short (inl none) = cc
 scene_comes plan text letter kind place short (inr (inl why)) = lexed short why
 scene_comes plan text letter kind place short (inr (inr why)) = parsed short why
@@ -51,42 +50,34 @@ absent_comes plan ShelfFault found inner = absurd inner
 absent_comes plan NoMemory found inner = absurd inner
 
 -- one list of tokens has one refusal
-one_refusal : (tokens : List TextToken) (a b : Refusal) (x y : Fault) → IsRefusal (kinds_of tokens) a → IsRefusal (kinds_of tokens) b → x ≡ parsed_fault tokens a → y ≡ parsed_fault tokens b → IsInner x → IsInner y → x ≡ y
-one_refusal tokens Refusal.NoMemory b x y wa wb ea eb ia ib = absurd (subst IsInner ea ia)
-one_refusal tokens (Refusal.OutOfProfile k) Refusal.NoMemory x y wa wb ea eb ia ib = absurd (subst IsInner eb ib)
-one_refusal tokens (Refusal.ValueRange k) Refusal.NoMemory x y wa wb ea eb ia ib = absurd (subst IsInner eb ib)
-one_refusal tokens (Refusal.OutOfProfile k) (Refusal.OutOfProfile l) x y wa wb ea eb ia ib = ea ∙ ap (λ n. parsed_fault tokens (Refusal.OutOfProfile n)) (one_form_fault (kinds_of tokens) k l wa wb) ∙ sym eb
-one_refusal tokens (Refusal.ValueRange k) (Refusal.ValueRange l) x y wa wb ea eb ia ib = ea ∙ ap (λ n. parsed_fault tokens (Refusal.ValueRange n)) (one_value_fault (kinds_of tokens) k l wa wb) ∙ sym eb
-one_refusal tokens (Refusal.OutOfProfile k) (Refusal.ValueRange l) x y wa wb ea eb ia ib = absurd (wa.in_range l wb)
-one_refusal tokens (Refusal.ValueRange k) (Refusal.OutOfProfile l) x y wa wb ea eb ia ib = absurd (wb.in_range k wa)
+one_refusal : (plan : Plan) (tokens : List TextToken) (a b : Refusal) (x y : Fault) → IsScene tokens (settings_of plan.width plan.height) (Err a) → IsScene tokens (settings_of plan.width plan.height) (Err b) → x ≡ parsed_fault a → y ≡ parsed_fault b → x ≡ y
+one_refusal plan tokens a b x y wa wb ea eb =
+    let same : a ≡ b = cc (one_scene tokens (settings_of plan.width plan.height) (Err a) (Err b) wa wb) in
+    ea ∙ ap parsed_fault same ∙ sym eb
 
 -- a scene has no refusal
-no_refusal : (tokens : List TextToken) (text : List ℕ) (a : Refusal) (x : Fault) → IsRefusal (kinds_of tokens) a → x ≡ parsed_fault tokens a → IsInner x → (found : Unit {0}) → tokens_of 0 text ≡ Ok tokens → (plan : Plan) → HasImage plan text → ⊥
-no_refusal tokens text Refusal.NoMemory x why is inner _ lexes plan image = subst IsInner is inner
-no_refusal tokens text (Refusal.OutOfProfile k) x why is inner _ lexes plan image =
+no_refusal : (plan : Plan) (tokens : List TextToken) (text : List ℕ) (a : Refusal) → IsScene tokens (settings_of plan.width plan.height) (Err a) → tokens_of 0 text ≡ Ok tokens → HasImage plan text → ⊥
+no_refusal plan tokens text a why lexes image =
     let meant = image.1.meant in
     let same : tokens ≡ meant.tokens = cc in
-    scene_no_form_fault (kinds_of meant.tokens) image.1.drawn k meant.scene (subst (λ ts. IsRefusal (kinds_of ts) (Refusal.OutOfProfile k)) same why)
-no_refusal tokens text (Refusal.ValueRange k) x why is inner _ lexes plan image =
-    let meant = image.1.meant in
-    let same : tokens ≡ meant.tokens = cc in
-    scene_no_value_fault (kinds_of meant.tokens) image.1.drawn k meant.scene (subst (λ ts. IsRefusal (kinds_of ts) (Refusal.ValueRange k)) same why)
+    let refused = subst (λ ts. IsScene ts (settings_of plan.width plan.height) (Err a)) same why in
+    cc (one_scene meant.tokens (settings_of plan.width plan.height) (Ok image.1.drawn) (Err a) meant.scene refused)
 
 -- a text comes to one fault
 one_coming : (plan : Plan) (text : List ℕ) (x y : Fault) → IsInner x → IsInner y → Comes plan text x → Comes plan text y → x ≡ y
 one_coming plan text x y ix iy (drawn image is) (drawn image' is') = is ∙ sym is'
 one_coming plan text x y ix iy (drawn image is) (lexed short why) = let clash = sym image.1.meant.lexed ∙ why.lexed in cc
-one_coming plan text x y ix iy (drawn image is) (parsed short why) = absurd (no_refusal why.tokens text why.refusal y why.refused why.answer iy tt why.lexed plan image)
+one_coming plan text x y ix iy (drawn image is) (parsed short why) = absurd (no_refusal plan why.tokens text why.refusal why.refused why.lexed image)
 one_coming plan text x y ix iy (drawn image is) (long far is') = absurd (far image.1.short)
 one_coming plan text x y ix iy (lexed short why) (drawn image is) = let clash = sym image.1.meant.lexed ∙ why.lexed in cc
 one_coming plan text x y ix iy (lexed short why) (lexed short' why') = let same : why.found ≡ why'.found = cc in why.answer ∙ ap lexed_fault same ∙ sym why'.answer
 one_coming plan text x y ix iy (lexed short why) (parsed short' why') = let clash = sym why.lexed ∙ why'.lexed in cc
 one_coming plan text x y ix iy (lexed short why) (long far is) = absurd (far short)
-one_coming plan text x y ix iy (parsed short why) (drawn image is) = absurd (no_refusal why.tokens text why.refusal x why.refused why.answer ix tt why.lexed plan image)
+one_coming plan text x y ix iy (parsed short why) (drawn image is) = absurd (no_refusal plan why.tokens text why.refusal why.refused why.lexed image)
 one_coming plan text x y ix iy (parsed short why) (lexed short' why') = let clash = sym why.lexed ∙ why'.lexed in cc
 one_coming plan text x y ix iy (parsed short why) (parsed short' why') =
     let same : why.tokens ≡ why'.tokens = cc in
-    one_refusal why'.tokens why.refusal why'.refusal x y (subst (λ ts. IsRefusal (kinds_of ts) why.refusal) same why.refused) why'.refused (why.answer ∙ ap (λ ts. parsed_fault ts why.refusal) same) why'.answer ix iy
+    one_refusal plan why'.tokens why.refusal why'.refusal x y (subst (λ ts. IsScene ts (settings_of plan.width plan.height) (Err why.refusal)) same why.refused) why'.refused why.answer why'.answer
 one_coming plan text x y ix iy (parsed short why) (long far is) = absurd (far short)
 one_coming plan text x y ix iy (long far is) (drawn image is') = absurd (far image.1.short)
 one_coming plan text x y ix iy (long far is) (lexed short why) = absurd (far short)

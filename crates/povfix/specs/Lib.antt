@@ -5,4 +5,3 @@ pub mod Picture
 pub mod Lines
 pub mod Texts
 pub mod Verdict
-pub mod Reading

@@ -1,5 +1,5 @@
 -- What words and texts come to, before anything fails outside.
-use Rattle.std.specs.Prelude.{ℕ, ◌-◌, ◌<◌, ◌≤◌, ◌≡◌, ◌≢◌, ◌⊎◌, List, [], length, slice_get, Option, Some, None, Result, Ok, Err}
+use Rattle.std.specs.Prelude.{ℕ, ◌<◌, ◌≤◌, ◌≡◌, ◌≢◌, ◌⊎◌, List, [], Option, Some, None, Result, Ok, Err}
 use Rattle.scene_lexer.specs.declared.token.Place.{Place}
 use Rattle.scene_lexer.specs.declared.token.Token.{Token as TextToken}
 use Rattle.scene_lexer.specs.declared.token.LexFault.{LexFault}
@@ -13,28 +13,14 @@ use Rattle.povfix.specs.declared.texts.Text.{Text}
 use Rattle.povfix.specs.Options.{plan_of}
 use Rattle.povfix.specs.Texts.{text_of, IsWithinLimit}
 use Rattle.povfix.specs.declared.parser.Refusal.{Refusal}
-use Rattle.povfix.specs.Grammar.{kinds_of, Drawn, IsScene, IsRefusal}
+use Rattle.povfix.specs.Grammar.{Drawn, IsScene, settings_of}
 use Rattle.povfix.specs.Picture.{IsPicture}
 use Rattle.image_out.specs.declared.picture.Sort.TheVariants.{Ppm}
 use Rattle.image_out.specs.Files.{file_of}
 
--- ---- places
-
+-- the start of the first text
 abbrev pub text_start : Place
 text_start = record { file = 0; at = 0; line = 1 }
-
--- the end of the last token, on its line; the start of the first text where there is no token
-abbrev pub end_place : Option TextToken → Place
-end_place None = text_start
-end_place (Some token) = record { file = token.place.file; at = token.to; line = token.place.line }
-
-abbrev pub place_or : Option TextToken → Place → Place
-place_or (Some token) end = token.place
-place_or None end = end
-
--- the place of the token of this number, or the end of all
-abbrev pub token_place : List TextToken → ℕ → Place
-token_place tokens at = place_or (slice_get tokens at) (end_place (slice_get tokens (length tokens - 1)))
 
 -- ---- one text
 
@@ -48,16 +34,17 @@ lexed_fault (NumberRange place) = SceneFault 76 5 place
 lexed_fault LexFault.NoMemory = NoMemory
 
 -- a fault of the items, under the letter P
-abbrev pub parsed_fault : List TextToken → Refusal → Fault
-parsed_fault tokens (Refusal.OutOfProfile at) = SceneFault 80 2 (token_place tokens at)
-parsed_fault tokens (Refusal.ValueRange at) = SceneFault 80 3 (token_place tokens at)
-parsed_fault tokens Refusal.NoMemory = NoMemory
+abbrev pub parsed_fault : Refusal → Fault
+parsed_fault (Refusal.Expected kind place) = SceneFault 80 1 place
+parsed_fault (Refusal.OutOfProfile place) = SceneFault 80 2 place
+parsed_fault (Refusal.ValueRange place) = SceneFault 80 3 place
+parsed_fault Refusal.NoMemory = NoMemory
 
--- the text means this scene
-pub record IsMeant (text : List ℕ) (drawn : Drawn) : Type 0 where
+-- the text means this scene in a picture of these sides
+pub record IsMeant (plan : Plan) (text : List ℕ) (drawn : Drawn) : Type 0 where
   pub tokens : List TextToken
   pub lexed : tokens_of 0 text ≡ Ok tokens
-  pub scene : IsScene (kinds_of tokens) drawn
+  pub scene : IsScene tokens (settings_of plan.width plan.height) (Ok drawn)
 
 -- no tokens, and why
 pub record IsLexed (text : List ℕ) (fault : Fault) : Type 0 where
@@ -66,16 +53,16 @@ pub record IsLexed (text : List ℕ) (fault : Fault) : Type 0 where
   pub answer : fault ≡ lexed_fault found
 
 -- tokens that are no scene, and why
-pub record IsParsed (text : List ℕ) (fault : Fault) : Type 0 where
+pub record IsParsed (plan : Plan) (text : List ℕ) (fault : Fault) : Type 0 where
   pub tokens : List TextToken
   pub lexed : tokens_of 0 text ≡ Ok tokens
   pub refusal : Refusal
-  pub refused : IsRefusal (kinds_of tokens) refusal
-  pub answer : fault ≡ parsed_fault tokens refusal
+  pub refused : IsScene tokens (settings_of plan.width plan.height) (Err refusal)
+  pub answer : fault ≡ parsed_fault refusal
 
 -- why a text means no scene
-abbrev pub IsMeaningless : List ℕ → Fault → Type 0
-IsMeaningless text fault = (fault ≡ NoMemory) ⊎ (IsLexed text fault ⊎ IsParsed text fault)
+abbrev pub IsMeaningless : Plan → List ℕ → Fault → Type 0
+IsMeaningless plan text fault = (fault ≡ NoMemory) ⊎ (IsLexed text fault ⊎ IsParsed plan text fault)
 
 -- pictures have sides from 1 to 8192
 pub record IsSides (plan : Plan) : Type 0 where
@@ -94,7 +81,7 @@ pub record IsDrawn (plan : Plan) (drawn : Drawn) (bytes : List ℕ) : Type 0 whe
 pub record IsImage (plan : Plan) (text bytes : List ℕ) : Type 0 where
   pub short : IsWithinLimit plan.input text
   pub drawn : Drawn
-  pub meant : IsMeant text drawn
+  pub meant : IsMeant plan text drawn
   pub image : IsDrawn plan drawn bytes
 
 -- the text has a picture file
@@ -103,7 +90,7 @@ HasImage plan text = (bytes : List ℕ) × IsImage plan text bytes
 
 -- why a text has no picture file
 abbrev pub IsTextFault : Plan → List ℕ → Fault → Type 0
-IsTextFault plan text (SceneFault letter kind place) = IsWithinLimit plan.input text × IsMeaningless text (SceneFault letter kind place)
+IsTextFault plan text (SceneFault letter kind place) = IsWithinLimit plan.input text × IsMeaningless plan text (SceneFault letter kind place)
 IsTextFault plan text (Limit which place) = (IsWithinLimit plan.input text → ⊥) × (which ≡ 4) × (place ≡ text_start)
 IsTextFault plan text NoMemory = Unit {0}
 IsTextFault plan text _ = ⊥

@@ -1,6 +1,6 @@
-// The grammar of scenes, as tables of what each item is made of.
+// The tokens of scenes that stand for themselves.
 ghost use Rattle.std.specs.Prelude.{◌≡◌};
-ghost use Rattle.povfix.specs.Grammar.{spelling_of, fits, mark_of, is_optional, number_parts, vector_parts, colour_parts, steps_of};
+ghost use Rattle.povfix.specs.Grammar.{spelling_of, fits, background_front, background_end, sphere_front, pigment_front, sphere_end};
 
 use scene_lexer::Kind;
 
@@ -9,11 +9,9 @@ use scene_lexer::Kind;
 pub enum Keyword {
     Ambient,
     Background,
-    Color,
     Diffuse,
     Finish,
     Pigment,
-    Rgb,
     Sphere,
 }
 
@@ -22,32 +20,8 @@ pub enum Keyword {
 pub enum Mark {
     Word(Keyword),
     Sign(u8),
-    Number,
     One,
     Zero,
-}
-
-/// A token of a parameter, which must be there, or may.
-#[derive(Clone, Copy)]
-pub enum Part {
-    Must(Mark),
-    May(Mark),
-}
-
-/// A step of an item: a token, or a parameter.
-#[derive(Clone, Copy)]
-pub enum Step {
-    Token(Mark),
-    Point,
-    Radius,
-    Colour,
-}
-
-/// An item of a scene.
-#[derive(Clone, Copy)]
-pub enum Item {
-    Background,
-    Sphere,
 }
 
 impl Keyword {
@@ -57,11 +31,9 @@ impl Keyword {
         match self {
             Keyword::Ambient => b"ambient",
             Keyword::Background => b"background",
-            Keyword::Color => b"color",
             Keyword::Diffuse => b"diffuse",
             Keyword::Finish => b"finish",
             Keyword::Pigment => b"pigment",
-            Keyword::Rgb => b"rgb",
             Keyword::Sphere => b"sphere",
         }
     }
@@ -75,7 +47,6 @@ impl Mark {
         match (self, kind) {
             (Mark::Word(keyword), Kind::Word(name)) => name.bytes() == keyword.spelling(),
             (Mark::Sign(sign), Kind::Sign(byte)) => *byte == sign,
-            (Mark::Number, Kind::Number(_)) => true,
             (Mark::One, Kind::Number(value)) => value.raw() == 65536,
             (Mark::Zero, Kind::Number(value)) => value.raw() == 0,
             _ => false,
@@ -83,105 +54,52 @@ impl Mark {
     }
 }
 
-impl Part {
-    pub fn mark(self) -> Mark
-        ensures { result ≡ mark_of self }
-    {
-        match self {
-            Part::Must(mark) | Part::May(mark) => mark,
-        }
-    }
+static BACKGROUND_FRONT: [Mark; 2] = [Mark::Word(Keyword::Background), Mark::Sign(b'{')];
 
-    pub fn is_optional(self) -> bool
-        ensures { result ≡ is_optional self }
-    {
-        matches!(self, Part::May(_))
-    }
-}
+static BACKGROUND_END: [Mark; 1] = [Mark::Sign(b'}')];
 
-static NUMBER: [Part; 2] = [Part::May(Mark::Sign(b'-')), Part::Must(Mark::Number)];
+static SPHERE_FRONT: [Mark; 2] = [Mark::Word(Keyword::Sphere), Mark::Sign(b'{')];
 
-static VECTOR: [Part; 10] = [
-    Part::Must(Mark::Sign(b'<')),
-    Part::May(Mark::Sign(b'-')),
-    Part::Must(Mark::Number),
-    Part::Must(Mark::Sign(b',')),
-    Part::May(Mark::Sign(b'-')),
-    Part::Must(Mark::Number),
-    Part::Must(Mark::Sign(b',')),
-    Part::May(Mark::Sign(b'-')),
-    Part::Must(Mark::Number),
-    Part::Must(Mark::Sign(b'>')),
+static PIGMENT_FRONT: [Mark; 2] = [Mark::Word(Keyword::Pigment), Mark::Sign(b'{')];
+
+static SPHERE_END: [Mark; 9] = [
+    Mark::Sign(b'}'),
+    Mark::Word(Keyword::Finish),
+    Mark::Sign(b'{'),
+    Mark::Word(Keyword::Ambient),
+    Mark::One,
+    Mark::Word(Keyword::Diffuse),
+    Mark::Zero,
+    Mark::Sign(b'}'),
+    Mark::Sign(b'}'),
 ];
 
-static COLOUR: [Part; 12] = [
-    Part::May(Mark::Word(Keyword::Color)),
-    Part::Must(Mark::Word(Keyword::Rgb)),
-    Part::Must(Mark::Sign(b'<')),
-    Part::May(Mark::Sign(b'-')),
-    Part::Must(Mark::Number),
-    Part::Must(Mark::Sign(b',')),
-    Part::May(Mark::Sign(b'-')),
-    Part::Must(Mark::Number),
-    Part::Must(Mark::Sign(b',')),
-    Part::May(Mark::Sign(b'-')),
-    Part::Must(Mark::Number),
-    Part::Must(Mark::Sign(b'>')),
-];
-
-static BACKGROUND: [Step; 4] = [
-    Step::Token(Mark::Word(Keyword::Background)),
-    Step::Token(Mark::Sign(b'{')),
-    Step::Colour,
-    Step::Token(Mark::Sign(b'}')),
-];
-
-static SPHERE: [Step; 17] = [
-    Step::Token(Mark::Word(Keyword::Sphere)),
-    Step::Token(Mark::Sign(b'{')),
-    Step::Point,
-    Step::Token(Mark::Sign(b',')),
-    Step::Radius,
-    Step::Token(Mark::Word(Keyword::Pigment)),
-    Step::Token(Mark::Sign(b'{')),
-    Step::Colour,
-    Step::Token(Mark::Sign(b'}')),
-    Step::Token(Mark::Word(Keyword::Finish)),
-    Step::Token(Mark::Sign(b'{')),
-    Step::Token(Mark::Word(Keyword::Ambient)),
-    Step::Token(Mark::One),
-    Step::Token(Mark::Word(Keyword::Diffuse)),
-    Step::Token(Mark::Zero),
-    Step::Token(Mark::Sign(b'}')),
-    Step::Token(Mark::Sign(b'}')),
-];
-
-pub fn number_parts() -> &'static [Part]
-    ensures { result.now ≡ number_parts }
+pub fn background_front() -> &'static [Mark]
+    ensures { result.now ≡ background_front }
 {
-    &NUMBER
+    &BACKGROUND_FRONT
 }
 
-pub fn vector_parts() -> &'static [Part]
-    ensures { result.now ≡ vector_parts }
+pub fn background_end() -> &'static [Mark]
+    ensures { result.now ≡ background_end }
 {
-    &VECTOR
+    &BACKGROUND_END
 }
 
-pub fn colour_parts() -> &'static [Part]
-    ensures { result.now ≡ colour_parts }
+pub fn sphere_front() -> &'static [Mark]
+    ensures { result.now ≡ sphere_front }
 {
-    &COLOUR
+    &SPHERE_FRONT
 }
 
-impl Item {
-    /// The steps that spell the item.
-    pub fn steps(self) -> &'static [Step]
-        ensures { result.now ≡ steps_of self }
-    {
-        match self {
-            Item::Background => &BACKGROUND,
-            Item::Sphere => &SPHERE,
-        }
-    }
+pub fn pigment_front() -> &'static [Mark]
+    ensures { result.now ≡ pigment_front }
+{
+    &PIGMENT_FRONT
+}
+
+pub fn sphere_end() -> &'static [Mark]
+    ensures { result.now ≡ sphere_end }
+{
+    &SPHERE_END
 }

@@ -1,10 +1,11 @@
 // From a scene text to the bytes of its picture file.
 ghost use Rattle.std.specs.Prelude.{◌≡◌, ◌≤◌, ◌<◌, ◌*◌, ◌^◌, IfOk, IfErr, MatchBool, length};
-ghost use Rattle.povfix.specs.Grammar.{drawn_of, kinds_of, IsScene};
+ghost use Rattle.povfix.specs.Grammar.{drawn_of, settings_of, IsScene};
 ghost use Rattle.povfix.specs.Picture.{IsPicture};
 ghost use Rattle.povfix.specs.Texts.{IsWithinLimit};
-ghost use Rattle.povfix.specs.Verdict.{lexed_fault, parsed_fault, token_place, IsDrawn, IsImage, IsMeaningless, IsMeant, IsSides, IsTextFault};
+ghost use Rattle.povfix.specs.Verdict.{lexed_fault, parsed_fault, IsDrawn, IsImage, IsMeaningless, IsMeant, IsSides, IsTextFault};
 ghost use Rattle.image_out.specs.Files.{file_of};
+ghost use Rattle.scene_expr.specs.Values.{AreWhole};
 ghost use Rattle.scene_lexer.specs.Tokens.{tokens_of};
 
 use crate::frame_trace::draw;
@@ -12,8 +13,10 @@ use crate::options::Plan;
 use crate::outcome::Fault;
 use crate::parser::{Refusal, parse};
 use crate::scene::Scene;
+use fix_math::Fix;
 use image_out::{Picture, Sort, put, room};
-use scene_lexer::{LexFault, Place, Token, lex};
+use scene_expr::Settings;
+use scene_lexer::{LexFault, Place, lex};
 use std::alloc::{AllocError, Global};
 
 /// The start of the first text.
@@ -39,22 +42,6 @@ fn is_within_limit(name: &[u8], text: &[u8]) -> bool
     }
 }
 
-/// The place of the token of this number, or the end of the last one.
-fn token_place(tokens: &[Token], at: usize) -> Place
-    ensures { result ≡ token_place tokens.now at }
-{
-    match tokens.get(at) {
-        Some(token) => token.place,
-        None => match tokens.last() {
-            Some(token) => Place {
-                at: token.to,
-                ..token.place
-            },
-            None => START,
-        },
-    }
-}
-
 /// The fault that a refusal of the bytes is answered by.
 fn lexed(fault: LexFault) -> Fault
     ensures { result ≡ lexed_fault fault }
@@ -70,30 +57,50 @@ fn lexed(fault: LexFault) -> Fault
 }
 
 /// The fault that a refusal of the tokens is answered by.
-fn parsed(tokens: &[Token], refusal: Refusal) -> Fault
-    ensures { result ≡ parsed_fault tokens.now refusal }
+fn parsed(refusal: Refusal) -> Fault
+    ensures { result ≡ parsed_fault refusal }
 {
     match refusal {
-        Refusal::OutOfProfile(at) => Fault::SceneFault(b'P', 2, token_place(tokens, at)),
-        Refusal::ValueRange(at) => Fault::SceneFault(b'P', 3, token_place(tokens, at)),
+        Refusal::Expected(_, place) => Fault::SceneFault(b'P', 1, place),
+        Refusal::OutOfProfile(place) => Fault::SceneFault(b'P', 2, place),
+        Refusal::ValueRange(place) => Fault::SceneFault(b'P', 3, place),
         Refusal::NoMemory => Fault::NoMemory,
     }
 }
 
+/// What a single frame tells its expressions.
+fn settings_of(plan: &Plan) -> Settings
+    requires { IsSides plan.now }
+    ensures value { result ≡ settings_of plan.now.width plan.now.height }
+    ensures whole { AreWhole result }
+{
+    Settings {
+        clock: Fix(0),
+        initial_clock: Fix(0),
+        final_clock: Fix(65536),
+        frame_number: 1,
+        initial_frame: 1,
+        final_frame: 1,
+        image_width: plan.width,
+        image_height: plan.height,
+    }
+}
+
 /// The scene of a text, or why it has none.
-fn scene_of(alloc: Global, text: &[u8]) -> Result<Scene, Fault>
-    requires { length text.now ≤ 2 ^ 24 }
-    ensures scene { IfOk result (λ scene. IsMeant text.now (drawn_of scene)) }
+fn scene_of(alloc: Global, plan: &Plan, text: &[u8]) -> Result<Scene, Fault>
+    requires short { length text.now ≤ 2 ^ 24 }
+    requires sides { IsSides plan.now }
+    ensures scene { IfOk result (λ scene. IsMeant plan.now text.now (drawn_of scene)) }
     ensures few { IfOk result (λ scene. length scene.balls.items < 2 ^ 32) }
-    ensures fault { IfErr result (IsMeaningless text.now) }
+    ensures fault { IfErr result (IsMeaningless plan.now text.now) }
 {
     let tokens = match lex(alloc, 0, text) {
         Ok(tokens) => tokens,
         Err(fault) => return Err(lexed(fault)),
     };
-    match parse(alloc, &tokens) {
+    match parse(alloc, &tokens, &settings_of(plan)) {
         Ok(scene) => Ok(scene),
-        Err(refusal) => Err(parsed(&tokens, refusal)),
+        Err(refusal) => Err(parsed(refusal)),
     }
 }
 
@@ -134,7 +141,7 @@ pub fn image_file(alloc: Global, plan: &Plan, text: &[u8]) -> Result<Vec<u8>, Fa
     if !is_within_limit(plan.input.bytes(), text) {
         return Err(Fault::Limit(4, START));
     }
-    let scene = match scene_of(alloc, text) {
+    let scene = match scene_of(alloc, plan, text) {
         Ok(scene) => scene,
         Err(fault) => return Err(fault),
     };

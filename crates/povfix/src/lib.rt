@@ -5,6 +5,7 @@ mod folder_texts;
 mod frame_trace;
 mod grammar;
 mod image_file;
+mod law;
 mod mem_texts;
 mod options;
 mod outcome;
@@ -16,6 +17,7 @@ mod store;
 mod texts;
 
 pub use folder_texts::FolderTexts;
+pub use law::one_meaning;
 pub use mem_texts::MemTexts;
 pub use options::{OptionFault, Plan, Where};
 pub use outcome::{Fault, Outcome, Traced};

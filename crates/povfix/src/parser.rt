@@ -1,25 +1,36 @@
 // Reads the items of a scene from its tokens.
-ghost use Rattle.std.specs.Prelude.{◌≡◌, ◌≤◌, ◌<◌, ◌+◌, IsTrue, IfOk, IfErr, OnOk, MatchResult, Ok, Err, Some, pos, drop, length};
-ghost use Rattle.povfix.specs.Grammar.{kinds_of, number_at, vector_at, ball_in, is_between, is_vector_between, is_in_range, parts_of, with_item, drawn_of, IsItemInRange, IsScene, IsRefusal};
-ghost use Rattle.povfix.specs.Reading.{fits_first, read_parts, read_step, read_steps, first_item, IsStop};
+ghost use Rattle.std.specs.Prelude.{◌≡◌, ◌≢◌, ◌≤◌, ◌<◌, ◌+◌, IsTrue, IfOk, IfErr, Result, Ok, Err, ℤ, length};
+ghost use Rattle.scene_expr.specs.Values.{AreWhole};
+ghost use Rattle.povfix.specs.Colours.{IsColour, IsPoint, IsRadius};
+ghost use Rattle.scene_expr.specs.Operators.{vector_of};
+ghost use Rattle.povfix.specs.Grammar.{fits_at, passed_marks, behind_comma, refusal_of, is_between, is_vector_between, point_of, radius_of, colour_of, is_colour, is_pigment, background_of, pigment_of, drawn_of, painted_of, Drawn, IsExpression, IsParameter, IsBackground, IsSphere, IsItems, IsScene, Backdrop, Shape};
+ghost use Rattle.povfix.specs.declared.parser.Refusal.TheVariants.{NoMemory};
 
-use crate::grammar::{Item, Keyword, Mark, Part, Step, colour_parts, number_parts, vector_parts};
+use crate::grammar::{
+    Keyword, Mark, background_end, background_front, pigment_front, sphere_end, sphere_front,
+};
 use crate::scene::{Ball, Scene};
 use fix_math::{Fix, V3};
-use scene_lexer::{Kind, Token};
+use scene_expr::{ExprFault, Level, Settings, Value, eval, place_at};
+use scene_lexer::{Kind, Place, Token};
 use shapes::Sphere;
-use std::alloc::{AllocError, Global};
+use std::alloc::Global;
 
-/// Why the tokens aren't a scene, with the number of the token at fault, or the count of all at their end.
+/// Why the tokens aren't a scene.
 #[derive(Clone, Copy, Debug, PartialEq, Eq)]
 pub enum Refusal {
+    /// What is expected here is missing: 4 is a parameter.
+    Expected(u8, Place),
     /// No scene that is read today goes on like this.
-    OutOfProfile(usize),
-    /// The value of the parameter that begins here is outside its range.
-    ValueRange(usize),
+    OutOfProfile(Place),
+    /// A value outside its range.
+    ValueRange(Place),
     /// There is no memory for the scene.
     NoMemory,
 }
+
+/// The kind of what is expected where a parameter is.
+const PARAMETER: u8 = 4;
 
 /// The greatest coordinate and radius: 4096 units.
 const MOST_LENGTH: i64 = 1 << 28;
@@ -27,69 +38,79 @@ const MOST_LENGTH: i64 = 1 << 28;
 /// The greatest channel of a colour: 256 units.
 const MOST_CHANNEL: i64 = 1 << 24;
 
+/// The greatest filter and transmit: 1 unit.
+const MOST_SHARE: i64 = 1 << 16;
+
 fn fits_at(tokens: &[Token], at: usize, mark: Mark) -> bool
-    ensures { result ≡ fits_first mark (drop at (kinds_of tokens.now)) }
+    ensures { result ≡ fits_at mark tokens.now at }
 {
-    if at < tokens.len() {
-        mark.fits(&tokens[at].kind)
-    } else {
-        false
+    match tokens.get(at) {
+        Some(token) => mark.fits(&token.kind),
+        None => false,
     }
 }
 
-/// Reads the parts from a place on: the place behind them, or that of the first token that doesn't fit.
-fn parts_at(tokens: &[Token], from: usize, parts: &[Part]) -> Result<usize, usize>
-    requires { from ≤ length tokens.now }
-    ensures value { MatchResult result
-        (λ end. read_parts parts.now (drop from (kinds_of tokens.now))
-        ≡ Ok (drop end (kinds_of tokens.now)))
-        (λ at. read_parts parts.now (drop from (kinds_of tokens.now))
-        ≡ Err (drop at (kinds_of tokens.now))) }
-    ensures within { MatchResult result
-        (λ end. (from ≤ end) × (end ≤ length tokens.now)) (λ at. (from ≤ at) × (at ≤ length tokens.now)) }
+/// The place behind these tokens, or the first that is another.
+fn passed_marks(tokens: &[Token], marks: &[Mark], at: usize) -> Result<usize, Refusal>
+    requires { at ≤ length tokens.now }
+    ensures value { result ≡ passed_marks tokens.now marks.now at }
+    ensures within { IfOk result (λ next. (next ≡ at + length marks.now) × (next ≤ length tokens.now)) }
 {
-    let mut at = from;
-    for part in parts {
-        if fits_at(tokens, at, part.mark()) {
-            at += 1;
-        } else if !part.is_optional() {
-            return Err(at);
+    let mut next = at;
+    'marks: for mark in marks {
+        if !fits_at(tokens, next, *mark) {
+            return Err(Refusal::OutOfProfile(place_at(tokens, next)));
         }
+        next += 1;
     }
-    Ok(at)
+    Ok(next)
 }
 
-/// The number of this place among those of the tokens, with the minus before it; 0 where there are fewer.
-fn number(tokens: &[Token], place: usize) -> Fix
-    ensures { result ≡ number_at (kinds_of tokens.now) place }
+/// The place behind a comma, where there is one.
+fn behind_comma(tokens: &[Token], at: usize) -> usize
+    requires { at ≤ length tokens.now }
+    ensures value { result ≡ behind_comma tokens.now at }
+    ensures within { (at ≤ result) × (result ≤ length tokens.now) }
 {
-    let mut left = place;
-    let mut negative = false;
-    for token in tokens {
-        match &token.kind {
-            Kind::Number(value) => {
-                if left == 0 {
-                    return if negative { value.negated() } else { *value };
-                }
-                left -= 1;
-                negative = false;
-            }
-            Kind::Sign(sign) => negative = *sign == b'-',
-            Kind::Word(_) => negative = false,
-            Kind::Text(_) => negative = false,
-        }
+    match tokens.get(at) {
+        Some(token) => match token.kind {
+            Kind::Sign(b',') => at + 1,
+            _ => at,
+        },
+        None => at,
     }
-    Fix(0)
 }
 
-fn vector(tokens: &[Token], place: usize) -> V3
-    requires { place < 1000 }
-    ensures { result ≡ vector_at (kinds_of tokens.now) place }
+/// A fault of an expression as one of the scene.
+fn refusal_of(fault: ExprFault) -> Refusal
+    ensures { result ≡ refusal_of fault }
 {
-    V3 {
-        x: number(tokens, place),
-        y: number(tokens, place + 1),
-        z: number(tokens, place + 2),
+    match fault {
+        ExprFault::Expected(place) => Refusal::Expected(PARAMETER, place),
+        ExprFault::UnknownName(place) => Refusal::OutOfProfile(place),
+        ExprFault::Kind(place) => Refusal::Expected(PARAMETER, place),
+        ExprFault::ZeroDivisor(place) => Refusal::ValueRange(place),
+        ExprFault::Range(place) => Refusal::ValueRange(place),
+        ExprFault::NoMemory => Refusal::NoMemory,
+    }
+}
+
+/// The longest sum from a token on, and the token behind it.
+fn expression(
+    alloc: Global,
+    tokens: &[Token],
+    set: &Settings,
+    at: usize,
+) -> Result<(Value, usize), Refusal>
+    requires within { at ≤ length tokens.now }
+    requires whole { AreWhole set.now }
+    ensures found { IfOk result (λ found. IsExpression tokens.now set.now at (Ok (record { value = found.0; next = found.1 }))) }
+    ensures refusal { IfErr result (λ r. r ≢ NoMemory → IsExpression tokens.now set.now at (Err r)) }
+    ensures within { IfOk result (λ found. (at ≤ found.1) × (found.1 ≤ length tokens.now)) }
+{
+    match eval(alloc, tokens, at, Level::Sum, set) {
+        Ok((value, next)) => Ok((value, next)),
+        Err(fault) => Err(refusal_of(fault)),
     }
 }
 
@@ -99,121 +120,268 @@ fn is_between(low: i64, high: i64, value: Fix) -> bool
     low <= value.raw() && value.raw() <= high
 }
 
-fn is_vector_between(low: i64, high: i64, value: V3) -> bool
-    ensures { result ≡ is_vector_between low high value }
+fn is_vector_between(low: i64, high: i64, value: &V3) -> bool
+    ensures { result ≡ is_vector_between low high value.now }
 {
     is_between(low, high, value.x)
         && is_between(low, high, value.y)
         && is_between(low, high, value.z)
 }
 
-/// Whether the value that a step's tokens spell is in its range.
-fn is_in_range(step: Step, tokens: &[Token]) -> bool
-    ensures { result ≡ is_in_range step (kinds_of tokens.now) }
+/// A float for each component, or a vector: its coordinates are at most 4096 units in size.
+fn point_of(value: Value, place: Place) -> Result<V3, Refusal>
+    ensures value { result ≡ point_of value place }
+    ensures valid { IfOk result IsPoint }
 {
-    match step {
-        Step::Token(_) => true,
-        Step::Point => is_vector_between(-MOST_LENGTH, MOST_LENGTH, vector(tokens, 0)),
-        Step::Radius => is_between(0, MOST_LENGTH, number(tokens, 0)),
-        Step::Colour => is_vector_between(0, MOST_CHANNEL, vector(tokens, 0)),
-    }
-}
-
-/// Reads the tokens of a step, whatever its value is.
-fn step_end(tokens: &[Token], from: usize, step: Step) -> Result<usize, usize>
-    requires { from ≤ length tokens.now }
-    ensures value { MatchResult result
-        (λ end. read_parts (parts_of step) (drop from (kinds_of tokens.now))
-        ≡ Ok (drop end (kinds_of tokens.now)))
-        (λ at. read_parts (parts_of step) (drop from (kinds_of tokens.now))
-        ≡ Err (drop at (kinds_of tokens.now))) }
-    ensures within { MatchResult result
-        (λ end. (from ≤ end) × (end ≤ length tokens.now)) (λ at. (from ≤ at) × (at ≤ length tokens.now)) }
-{
-    match step {
-        Step::Token(mark) => parts_at(tokens, from, &[Part::Must(mark)]),
-        Step::Point => parts_at(tokens, from, vector_parts()),
-        Step::Radius => parts_at(tokens, from, number_parts()),
-        Step::Colour => parts_at(tokens, from, colour_parts()),
-    }
-}
-
-/// Reads a step from a place on: the place behind it, whose value is in its range.
-fn step_at(tokens: &[Token], from: usize, step: Step) -> Result<usize, Refusal>
-    requires { from ≤ length tokens.now }
-    ensures value { MatchResult result
-        (λ end. read_step step (drop from (kinds_of tokens.now)) ≡ Ok (drop end (kinds_of tokens.now)))
-        (λ refusal. IsStop tokens.now refusal (read_step step (drop from (kinds_of tokens.now)))) }
-    ensures within { IfOk result (λ end. (from ≤ end) × (end ≤ length tokens.now)) }
-{
-    let end = match step_end(tokens, from, step) {
-        Ok(end) => end,
-        Err(at) => return Err(Refusal::OutOfProfile(at)),
+    let point = match value {
+        Value::Float(a) => V3 { x: a, y: a, z: a },
+        Value::Vector(v) => v,
+        Value::Color(_numbers) => return Err(Refusal::Expected(PARAMETER, place)),
+        Value::Text(_text) => return Err(Refusal::Expected(PARAMETER, place)),
     };
-    if is_in_range(step, &tokens[from..end]) {
-        Ok(end)
+    if is_vector_between(-MOST_LENGTH, MOST_LENGTH, &point) {
+        Ok(point)
     } else {
-        Err(Refusal::ValueRange(from))
+        Err(Refusal::ValueRange(place))
     }
 }
 
-/// Reads the steps from a place on: the place behind them, each value in its range.
-fn steps_at(tokens: &[Token], from: usize, steps: &[Step]) -> Result<usize, Refusal>
-    requires { from ≤ length tokens.now }
-    ensures value { MatchResult result
-        (λ end. read_steps steps.now (drop from (kinds_of tokens.now)) ≡ Ok (drop end (kinds_of tokens.now)))
-        (λ refusal. IsStop tokens.now refusal (read_steps steps.now (drop from (kinds_of tokens.now)))) }
-    ensures within { IfOk result (λ end. (from ≤ end) × (end ≤ length tokens.now)) }
+/// A radius from 0 to 4096 units.
+fn radius_of(value: Value, place: Place) -> Result<Fix, Refusal>
+    ensures value { result ≡ radius_of value place }
+    ensures valid { IfOk result IsRadius }
 {
-    let mut at = from;
-    for step in steps {
-        at = match step_at(tokens, at, *step) {
-            Ok(end) => end,
-            Err(refusal) => return Err(refusal),
-        };
+    let Value::Float(radius) = value else {
+        return Err(Refusal::Expected(PARAMETER, place));
+    };
+    if is_between(0, MOST_LENGTH, radius) {
+        Ok(radius)
+    } else {
+        Err(Refusal::ValueRange(place))
     }
-    Ok(at)
 }
 
-/// The item that the token at a place begins.
-fn item_at(tokens: &[Token], at: usize) -> Option<Item>
-    ensures { result ≡ first_item (drop at (kinds_of tokens.now)) }
+/// A value as the five numbers of a colour.
+fn colour_of(value: Value) -> Option<[Fix; 5]>
+    ensures { result ≡ colour_of value }
+{
+    match value {
+        Value::Float(a) => Some([a, a, a, a, a]),
+        Value::Vector(v) => Some([v.x, v.y, v.z, Fix(0), Fix(0)]),
+        Value::Color(numbers) => Some(numbers),
+        Value::Text(_text) => None,
+    }
+}
+
+/// Red, green and blue.
+fn first_three(numbers: &[Fix; 5]) -> V3
+    ensures { result ≡ vector_of numbers.now }
+{
+    V3 {
+        x: numbers[0],
+        y: numbers[1],
+        z: numbers[2],
+    }
+}
+
+/// Whether red, green and blue are from 0 to 256 units.
+fn is_colour(colour: &V3) -> bool
+    ensures test { result ≡ is_colour colour.now }
+    ensures fact { IsTrue result → IsColour colour.now }
+{
+    is_vector_between(0, MOST_CHANNEL, colour)
+}
+
+/// A background's colour, of which the first three numbers alone count.
+fn background_of(value: Value, place: Place) -> Result<V3, Refusal>
+    ensures value { result ≡ background_of value place }
+    ensures valid { IfOk result IsColour }
+{
+    let Some(numbers) = colour_of(value) else {
+        return Err(Refusal::Expected(PARAMETER, place));
+    };
+    let colour = first_three(&numbers);
+    if is_colour(&colour) {
+        Ok(colour)
+    } else {
+        Err(Refusal::ValueRange(place))
+    }
+}
+
+/// Whether all five numbers are in their ranges.
+fn is_pigment(numbers: &[Fix; 5]) -> bool
+    ensures test { result ≡ is_pigment numbers.now }
+    ensures fact { IsTrue result → IsColour (vector_of numbers.now) }
+{
+    is_colour(&first_three(numbers))
+        && is_between(0, MOST_SHARE, numbers[3])
+        && is_between(0, MOST_SHARE, numbers[4])
+}
+
+/// A pigment's colour, which lets no light through.
+fn pigment_of(value: Value, place: Place) -> Result<V3, Refusal>
+    ensures value { result ≡ pigment_of value place }
+    ensures valid { IfOk result IsColour }
+{
+    let Some(numbers) = colour_of(value) else {
+        return Err(Refusal::Expected(PARAMETER, place));
+    };
+    if !is_pigment(&numbers) {
+        return Err(Refusal::ValueRange(place));
+    }
+    if numbers[3].raw() == 0 && numbers[4].raw() == 0 {
+        Ok(first_three(&numbers))
+    } else {
+        Err(Refusal::OutOfProfile(place))
+    }
+}
+
+/// A point, and the token behind it.
+fn point(alloc: Global, tokens: &[Token], set: &Settings, at: usize) -> Result<(V3, usize), Refusal>
+    requires within { at ≤ length tokens.now }
+    requires whole { AreWhole set.now }
+    ensures found { IfOk result (λ found. IsParameter V3 point_of tokens.now set.now at (Ok (record { value = found.0; next = found.1 }))) }
+    ensures refusal { IfErr result (λ r. r ≢ NoMemory → IsParameter V3 point_of tokens.now set.now at (Err r)) }
+    ensures within { IfOk result (λ found. (at ≤ found.1) × (found.1 ≤ length tokens.now)) }
+    ensures valid { IfOk result (λ found. IsPoint found.0) }
+{
+    let (value, next) = expression(alloc, tokens, set, at)?;
+    Ok((point_of(value, place_at(tokens, at))?, next))
+}
+
+/// A radius, and the token behind it.
+fn radius(
+    alloc: Global,
+    tokens: &[Token],
+    set: &Settings,
+    at: usize,
+) -> Result<(Fix, usize), Refusal>
+    requires within { at ≤ length tokens.now }
+    requires whole { AreWhole set.now }
+    ensures found { IfOk result (λ found. IsParameter ℤ radius_of tokens.now set.now at (Ok (record { value = found.0; next = found.1 }))) }
+    ensures refusal { IfErr result (λ r. r ≢ NoMemory → IsParameter ℤ radius_of tokens.now set.now at (Err r)) }
+    ensures within { IfOk result (λ found. (at ≤ found.1) × (found.1 ≤ length tokens.now)) }
+    ensures valid { IfOk result (λ found. IsRadius found.0) }
+{
+    let (value, next) = expression(alloc, tokens, set, at)?;
+    Ok((radius_of(value, place_at(tokens, at))?, next))
+}
+
+/// A background's colour, and the token behind it.
+fn background_colour(
+    alloc: Global,
+    tokens: &[Token],
+    set: &Settings,
+    at: usize,
+) -> Result<(V3, usize), Refusal>
+    requires within { at ≤ length tokens.now }
+    requires whole { AreWhole set.now }
+    ensures found { IfOk result (λ found. IsParameter V3 background_of tokens.now set.now at (Ok (record { value = found.0; next = found.1 }))) }
+    ensures refusal { IfErr result (λ r. r ≢ NoMemory → IsParameter V3 background_of tokens.now set.now at (Err r)) }
+    ensures within { IfOk result (λ found. (at ≤ found.1) × (found.1 ≤ length tokens.now)) }
+    ensures valid { IfOk result (λ found. IsColour found.0) }
+{
+    let (value, next) = expression(alloc, tokens, set, at)?;
+    Ok((background_of(value, place_at(tokens, at))?, next))
+}
+
+/// A pigment's colour, and the token behind it.
+fn pigment_colour(
+    alloc: Global,
+    tokens: &[Token],
+    set: &Settings,
+    at: usize,
+) -> Result<(V3, usize), Refusal>
+    requires within { at ≤ length tokens.now }
+    requires whole { AreWhole set.now }
+    ensures found { IfOk result (λ found. IsParameter V3 pigment_of tokens.now set.now at (Ok (record { value = found.0; next = found.1 }))) }
+    ensures refusal { IfErr result (λ r. r ≢ NoMemory → IsParameter V3 pigment_of tokens.now set.now at (Err r)) }
+    ensures within { IfOk result (λ found. (at ≤ found.1) × (found.1 ≤ length tokens.now)) }
+    ensures valid { IfOk result (λ found. IsColour found.0) }
+{
+    let (value, next) = expression(alloc, tokens, set, at)?;
+    Ok((pigment_of(value, place_at(tokens, at))?, next))
+}
+
+/// A background: its colour, and the token behind it.
+fn background(
+    alloc: Global,
+    tokens: &[Token],
+    set: &Settings,
+    at: usize,
+) -> Result<(V3, usize), Refusal>
+    requires within { at < length tokens.now }
+    requires whole { AreWhole set.now }
+    ensures found { IfOk result (λ found. IsBackground tokens.now set.now at (Ok (record { value = Backdrop found.0; next = found.1 }))) }
+    ensures refusal { IfErr result (λ r. r ≢ NoMemory → IsBackground tokens.now set.now at (Err r)) }
+    ensures within { IfOk result (λ found. (at < found.1) × (found.1 ≤ length tokens.now)) }
+    ensures valid { IfOk result (λ found. IsColour found.0) }
+{
+    let start = passed_marks(tokens, background_front(), at)?;
+    let (colour, end) = background_colour(alloc, tokens, set, start)?;
+    let next = passed_marks(tokens, background_end(), end)?;
+    Ok((colour, next))
+}
+
+/// A sphere of one colour, and the token behind it.
+fn sphere(
+    alloc: Global,
+    tokens: &[Token],
+    set: &Settings,
+    at: usize,
+) -> Result<(Ball, usize), Refusal>
+    requires within { at < length tokens.now }
+    requires whole { AreWhole set.now }
+    ensures found { IfOk result (λ found. IsSphere tokens.now set.now at (Ok (record { value = Shape (painted_of found.0); next = found.1 }))) }
+    ensures refusal { IfErr result (λ r. r ≢ NoMemory → IsSphere tokens.now set.now at (Err r)) }
+    ensures within { IfOk result (λ found. (at < found.1) × (found.1 ≤ length tokens.now)) }
+{
+    let start = passed_marks(tokens, sphere_front(), at)?;
+    let (centre, comma) = point(alloc, tokens, set, start)?;
+    let (radius, pigment) = radius(alloc, tokens, set, behind_comma(tokens, comma))?;
+    let inside = passed_marks(tokens, pigment_front(), pigment)?;
+    let (colour, end) = pigment_colour(alloc, tokens, set, inside)?;
+    let next = passed_marks(tokens, sphere_end(), end)?;
+    let sphere = Sphere { centre, radius };
+    Ok((Ball { sphere, colour }, next))
+}
+
+/// Puts the item into the scene that a token begins, and answers the token behind it.
+fn item(
+    alloc: Global,
+    tokens: &[Token],
+    set: &Settings,
+    at: usize,
+    scene: &mut Scene,
+) -> Result<usize, Refusal>
+    requires within { at < length tokens.now }
+    requires whole { AreWhole set.now }
+    ensures further { IfOk result (λ next. (r : Result Drawn Refusal) → IsItems tokens.now set.now (drawn_of scene.new) next r → IsItems tokens.now set.now (drawn_of scene.old) at r) }
+    ensures refusal { IfErr result (λ r. r ≢ NoMemory → IsItems tokens.now set.now (drawn_of scene.old) at (Err r)) }
+    ensures within { IfOk result (λ next. (at < next) × (next ≤ length tokens.now)) }
+    ensures few { length scene.new.balls.items ≤ length scene.old.balls.items + 1 }
 {
     if fits_at(tokens, at, Mark::Word(Keyword::Background)) {
-        Some(Item::Background)
-    } else if fits_at(tokens, at, Mark::Word(Keyword::Sphere)) {
-        Some(Item::Sphere)
-    } else {
-        None
+        let (colour, next) = background(alloc, tokens, set, at)?;
+        scene.background = colour;
+        return Ok(next);
     }
-}
-
-/// Puts an item into the scene.
-fn add(item: Item, tokens: &[Token], scene: &mut Scene) -> Result<(), AllocError>
-    requires { IsItemInRange item (kinds_of tokens.now) }
-    ensures { OnOk result (drawn_of scene.new ≡ with_item item (kinds_of tokens.now) (drawn_of scene.old)) }
-{
-    match item {
-        Item::Background => scene.background = vector(tokens, 0),
-        Item::Sphere => {
-            let sphere = Sphere {
-                centre: vector(tokens, 0),
-                radius: number(tokens, 3),
-            };
-            let ball = Ball {
-                sphere,
-                colour: vector(tokens, 4),
-            };
-            scene.balls.push(ball)?;
-        }
+    if !fits_at(tokens, at, Mark::Word(Keyword::Sphere)) {
+        return Err(Refusal::OutOfProfile(place_at(tokens, at)));
     }
-    Ok(())
+    let (ball, next) = sphere(alloc, tokens, set, at)?;
+    match scene.balls.push(ball) {
+        Ok(()) => Ok(next),
+        Err(_) => Err(Refusal::NoMemory),
+    }
 }
 
 /// Reads the tokens of a text as a scene.
-pub fn parse(alloc: Global, tokens: &[Token]) -> Result<Scene, Refusal>
-    ensures scene { IfOk result (λ scene. IsScene (kinds_of tokens.now) (drawn_of scene)) }
-    ensures refusal { IfErr result (IsRefusal (kinds_of tokens.now)) }
+pub fn parse(alloc: Global, tokens: &[Token], set: &Settings) -> Result<Scene, Refusal>
+    requires { AreWhole set.now }
+    ensures scene { IfOk result (λ scene. IsScene tokens.now set.now (Ok (drawn_of scene))) }
+    ensures refusal { IfErr result (λ r. r ≢ NoMemory → IsScene tokens.now set.now (Err r)) }
+    ensures few { IfOk result (λ scene. length scene.balls.items ≤ length tokens.now) }
 {
     let black = V3 {
         x: Fix(0),
@@ -225,19 +393,8 @@ pub fn parse(alloc: Global, tokens: &[Token]) -> Result<Scene, Refusal>
         balls: Vec::new(alloc),
     };
     let mut at = 0;
-    while at < tokens.len() {
-        let item = match item_at(tokens, at) {
-            Some(item) => item,
-            None => return Err(Refusal::OutOfProfile(at)),
-        };
-        let end = match steps_at(tokens, at, item.steps()) {
-            Ok(end) => end,
-            Err(refusal) => return Err(refusal),
-        };
-        let Ok(()) = add(item, &tokens[at..end], &mut scene) else {
-            return Err(Refusal::NoMemory);
-        };
-        at = end;
+    'items: while at < tokens.len() {
+        at = item(alloc, tokens, set, at, &mut scene)?;
     }
     Ok(scene)
 }

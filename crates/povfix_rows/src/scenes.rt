@@ -49,7 +49,7 @@ const DRAWN: [(&[u8], [u8; 3]); 16] = [
 ];
 
 /// Texts whose form is refused: the letter, the kind, and the place as text, offset and line.
-const FORMS: [(&[u8], &str); 26] = [
+const FORMS: [(&[u8], &str); 16] = [
     (b"x", "P2 0@0:1"),
     (b"\n\nx", "P2 0@2:3"),
     (b"\r\rx", "P2 0@2:1"),
@@ -61,20 +61,10 @@ const FORMS: [(&[u8], &str); 26] = [
     (b"\"a\"", "P2 0@0:1"),
     (b"background", "P2 0@10:1"),
     (b"background ", "P2 0@10:1"),
-    (b"background {", "P2 0@12:1"),
-    (b"background { }", "P2 0@13:1"),
-    (b"background { color }", "P2 0@19:1"),
-    (b"background { color color rgb <1,1,1> }", "P2 0@19:1"),
-    (b"background { rgb 1 }", "P2 0@17:1"),
-    (b"background { rgb <1,1> }", "P2 0@21:1"),
-    (b"background { rgb <1,1,1,1> }", "P2 0@23:1"),
-    (b"background { rgb <1 1,1> }", "P2 0@20:1"),
-    (b"background { rgb <1,1,1 }", "P2 0@24:1"),
+    (b"background {", "P1 0@12:1"),
     (b"background { rgb <1,1,1> ", "P2 0@24:1"),
     (b"background {\n rgb <1,1,1>\n\n", "P2 0@25:2"),
     (b"background { rgb <1,1,1>, }", "P2 0@24:1"),
-    (b"background { rgb <--1,0,0> }", "P2 0@19:1"),
-    (b"background { rgb <+1,0,0> }", "P2 0@18:1"),
     (b"background { rgb <1,1,1> } }", "P2 0@27:1"),
 ];
 
@@ -85,7 +75,7 @@ const VALUES: [(&[u8], &str); 26] = [
     (b"background { rgb <-1,0,0> }", "P3 0@13:1"),
     (b"background { rgb <-0.00001,0,0> }", "P3 0@13:1"),
     (b"background { rgb <257,0,0> x", "P3 0@13:1"),
-    (b"background { rgb <257,0,0 }", "P2 0@26:1"),
+    (b"background { rgb <257,0,0 }", "P1 0@26:1"),
     (b"background { rgb <257,0,0> } $", "L1 0@29:1"),
     (b"x $", "L1 0@2:1"),
     (b"@", "L1 0@0:1"),
@@ -98,7 +88,7 @@ const VALUES: [(&[u8], &str); 26] = [
     (b"2147483648", "L5 0@0:1"),
     (b" 1234567890123456789012345678901", "L5 0@1:1"),
     (b"sphere { <0,0,4>, 1 }", "P2 0@20:1"),
-    (b"sphere { <0,0,4> 1 pigment", "P2 0@17:1"),
+    (b"sphere { <0,0,4> 1 pigment", "P2 0@26:1"),
     (
         b"sphere { <0,0,4097>, 1 pigment { rgb <1,0,0> } finish { ambient 1 diffuse 0 } }",
         "P3 0@9:1",
@@ -126,28 +116,32 @@ const VALUES: [(&[u8], &str); 26] = [
     ),
 ];
 
-/// Three spheres, one before another, each pixel found by asking membership at every number of its ray.
-const SPHERES: &[u8] = b"background { rgb <0.1,0.2,0.3> }
-sphere { <0,0,4>, 1 pigment { rgb <1,0,0> } finish { ambient 1 diffuse 0 } }
-sphere { <1,0.5,3.5>, 0.75 pigment { rgb <0,1,0> } finish { ambient 1 diffuse 0 } }
-sphere { <-1.5,-0.5,4.5>, 1 pigment { rgb <0,0,200> } finish { ambient 1 diffuse 0 } }
-";
-
-#[test]
-fn scenes_mean_their_picture(rt: HostRuntime) -> Result<(), Fail> {
-    for (text, pixel) in &DRAWN {
-        let left = rendered(&rt, rt.alloc(), &WORDS, &[("a.pov", *text)])?;
-        assert_eq!(&rt; left.told.bytes(), b"".as_slice());
-        assert_eq!(&rt; left.outcome.status, 0);
+/// Each text means a picture of one pixel.
+pub fn are_drawn(
+    rt: &(impl Threads + Sync + Abort),
+    alloc: Global,
+    rows: &[(&[u8], [u8; 3])],
+) -> Result<(), AllocError> {
+    for (text, pixel) in rows {
+        let left = rendered(rt, alloc, &WORDS, &[("a.pov", *text)])?;
+        assert_eq!(rt; left.told.bytes(), b"".as_slice());
+        assert_eq!(rt; left.outcome.status, 0);
         let file = left.outcome.shelf.contents(b"a.ppm");
-        assert_eq!(&rt; file.len(), 14);
-        assert!(&rt; file.starts_with(b"P6\n1 1\n255\n"));
-        assert!(&rt; file.ends_with(pixel));
+        assert_eq!(rt; file.len(), 14);
+        assert!(rt; file.starts_with(b"P6\n1 1\n255\n"));
+        assert!(rt; file.ends_with(pixel));
     }
     Ok(())
 }
 
-fn are_refused(
+#[test]
+fn scenes_mean_their_picture(rt: HostRuntime) -> Result<(), Fail> {
+    are_drawn(&rt, rt.alloc(), &DRAWN)?;
+    Ok(())
+}
+
+/// Each text is refused, and no file is written.
+pub fn are_refused(
     rt: &(impl Threads + Sync + Abort),
     alloc: Global,
     rows: &[(&[u8], &str)],
@@ -166,22 +160,5 @@ fn are_refused(
 fn refused_scenes_are_told_with_their_place(rt: HostRuntime) -> Result<(), Fail> {
     are_refused(&rt, rt.alloc(), &FORMS)?;
     are_refused(&rt, rt.alloc(), &VALUES)?;
-    Ok(())
-}
-
-#[test]
-fn the_nearest_sphere_is_seen(rt: HostRuntime) -> Result<(), Fail> {
-    let left = rendered(
-        &rt,
-        rt.alloc(),
-        &["a.pov", "+W6", "+H4"],
-        &[("a.pov", SPHERES)],
-    )?;
-    let file: &[u8] = b"P6\n6 4\n255\n\
-\x1a\x33\x4d\x1a\x33\x4d\x1a\x33\x4d\x1a\x33\x4d\x1a\x33\x4d\x1a\x33\x4d\
-\x1a\x33\x4d\x1a\x33\x4d\xff\x00\x00\x00\xff\x00\x00\xff\x00\x1a\x33\x4d\
-\x00\x00\xff\x00\x00\xff\xff\x00\x00\xff\x00\x00\x1a\x33\x4d\x1a\x33\x4d\
-\x1a\x33\x4d\x1a\x33\x4d\x1a\x33\x4d\x1a\x33\x4d\x1a\x33\x4d\x1a\x33\x4d";
-    assert_eq!(&rt; left.outcome.shelf.contents(b"a.ppm"), file);
     Ok(())
 }

@@ -1,13 +1,15 @@
--- The tokens so far are a scene, the one so far.
-use Rattle.std.proofs.Common.{◌≤◌, ◌-◌, length, take}
-use Rattle.povfix.specs.Grammar.{kinds_of, drawn_of, IsScene}
+-- What comes of the items from here on comes of all.
+use Rattle.std.proofs.Common.{◌≤◌, ◌-◌, length, Result}
+use Rattle.povfix.specs.declared.parser.Refusal.{Refusal}
+use Rattle.povfix.specs.Grammar.{drawn_of, nothing, Drawn, IsItems}
 use Rattle.povfix.proofs.parser.parse.Given as goal
 
-abbrev pub invariant-loop-at : goal.invariant-loop-at
-invariant-loop-at l = record {
+abbrev pub invariant-items : goal.invariant-items
+invariant-items l = record {
   within : l.at ≤ length l.tokens;
-  scene : IsScene (take l.at (kinds_of l.tokens)) (drawn_of l.scene);
+  few : length l.scene.balls.items ≤ l.at;
+  whole : (r : Result Drawn Refusal) → IsItems l.tokens l.set (drawn_of l.scene) l.at r → IsItems l.tokens l.set nothing 0 r;
 }
 
-abbrev pub decreases-loop-at : goal.decreases-loop-at
-decreases-loop-at l = length l.tokens - l.at
+abbrev pub decreases-items : goal.decreases-items
+decreases-items l = length l.tokens - l.at
