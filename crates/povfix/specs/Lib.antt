@@ -1,5 +1,5 @@
 pub mod Options
-pub mod Colours
+pub mod Ranges
 pub mod Grammar
 pub mod Picture
 pub mod Lines

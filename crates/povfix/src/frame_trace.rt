@@ -1,7 +1,7 @@
 // The rays of the pixels, and the picture that they show.
 ghost use Rattle.std.specs.Prelude.{◌≡◌, ◌≤◌, ◌<◌, ◌^◌, ◌*◌, ◌+◌, ◌-ℤ◌, pos, unsigned_abs, length, IfOk};
 ghost use Rattle.shapes.specs.Rays.{IsRayDirection};
-ghost use Rattle.povfix.specs.Colours.{IsColour};
+ghost use Rattle.povfix.specs.Ranges.{IsColour};
 ghost use Rattle.povfix.specs.Grammar.{drawn_of};
 ghost use Rattle.povfix.specs.Picture.{offset_of, pixel_ray_of, Shows, IsPicture};
 

@@ -1,7 +1,7 @@
 // Reads the items of a scene from its tokens.
 ghost use Rattle.std.specs.Prelude.{◌≡◌, ◌≢◌, ◌≤◌, ◌<◌, ◌+◌, IsTrue, IfOk, IfErr, Result, Ok, Err, ℤ, length};
 ghost use Rattle.scene_expr.specs.Values.{AreWhole};
-ghost use Rattle.povfix.specs.Colours.{IsColour, IsPoint, IsRadius};
+ghost use Rattle.povfix.specs.Ranges.{IsColour, IsPoint, IsRadius};
 ghost use Rattle.scene_expr.specs.Operators.{vector_of};
 ghost use Rattle.povfix.specs.Grammar.{fits_at, passed_marks, behind_comma, refusal_of, is_between, is_vector_between, point_of, radius_of, colour_of, is_colour, is_pigment, background_of, pigment_of, drawn_of, painted_of, Drawn, IsExpression, IsParameter, IsBackground, IsSphere, IsItems, IsScene, Backdrop, Shape};
 ghost use Rattle.povfix.specs.declared.parser.Refusal.TheVariants.{NoMemory};
@@ -19,11 +19,11 @@ use std::alloc::Global;
 /// Why the tokens aren't a scene.
 #[derive(Clone, Copy, Debug, PartialEq, Eq)]
 pub enum Refusal {
-    /// What is expected here is missing: 4 is a parameter.
+    /// What is expected here is missing, or is of another kind: 4 is a parameter.
     Expected(u8, Place),
-    /// No scene that is read today goes on like this.
+    /// A token that the item doesn't have here, a name that stands for nothing, or a pigment that isn't drawn yet.
     OutOfProfile(Place),
-    /// A value outside its range.
+    /// A parameter outside its range, at its first token, or an expression without a value, at its operator or call.
     ValueRange(Place),
     /// There is no memory for the scene.
     NoMemory,

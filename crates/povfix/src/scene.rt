@@ -1,5 +1,5 @@
 // A scene as it is drawn today.
-ghost use Rattle.povfix.specs.Colours.{IsColour};
+ghost use Rattle.povfix.specs.Ranges.{IsColour};
 
 use fix_math::V3;
 use shapes::{Path, Ranges, Sphere, Volume};

@@ -124,7 +124,7 @@ fn dotted(tokens: &[Token], value: Value, at: usize) -> Result<(Value, usize), E
     Ok((value, next))
 }
 
-/// Behind its sign, a value; behind its opening bracket, what stands in it; and so on.
+/// What a token begins that opens a depth: inside it so many depths are left.
 #[cycle(levels)]
 fn opened(
     alloc: Global,
@@ -197,7 +197,7 @@ fn push(values: &mut SmallVec<Value, 5>, value: Value) -> Result<(), ExprFault>
     Ok(())
 }
 
-/// Parts divided by commas.
+/// Parts divided by commas, inside a token that opened a depth: so many are left there.
 #[cycle(levels)]
 fn row(
     alloc: Global,
@@ -227,7 +227,7 @@ fn row(
     }
 }
 
-/// The numbers of a colour, each behind its word.
+/// The numbers of a colour, each behind its word, inside which so many depths are left.
 #[cycle(levels)]
 fn channels(
     alloc: Global,
@@ -455,7 +455,7 @@ fn part(
 }
 
 /// The value of the longest expression of a level that begins at the token `at`, and the number of
-/// the token behind it, or the first fault. No token is read twice, and none is copied.
+/// the token behind it, or the first fault. The position only goes forward, and no token is copied.
 pub fn eval(
     alloc: Global,
     tokens: &[Token],
