@@ -1,0 +1,5 @@
+pub mod Amounts
+pub mod Solids
+pub mod Looks
+pub mod Places
+pub mod Valid
