@@ -1,7 +1,7 @@
 -- The bytes of a buffer, and what a file over its front reads as.
 use Rattle.std.proofs.Common.{◌≡◌, ◌+◌, ◌<◌, ◌≤◌, ℕ, List, length, take, get_or, max, min, ap, ◌∙◌, arith, length-take}
 use Rattle.std.proofs.lemmas.List.{get_or-take}
-use Rattle.shelf.specs.Disk.{Written, Torn, Trimmed}
+use Rattle.shelf.specs.Disk.{Written, Torn, Cut, Trimmed}
 
 -- a file's front of a buffer, after bytes were written into the buffer
 pub written_front : (at len : ℕ) (old new bytes : List ℕ) → len ≤ length old → at ≤ len → at + length bytes ≤ length old → length new ≡ length old
@@ -30,6 +30,16 @@ trimmed_by_cut size old new e =
       no_shorter = omega (arith, long);
       no_longer = omega (arith, long);
       below = λ k h i j. ap (λ l. get_or l k 0) e ∙ get_or-take size old k 0 h;
+    }
+
+-- and its result is among what a crash may leave of it
+pub left_by_cut : (size : ℕ) (old new : List ℕ) → new ≡ take size old → Cut size old new
+left_by_cut size old new e =
+    let long : length new ≡ min size (length old) = ap length e ∙ length-take size old in
+    record {
+      no_shorter = omega (arith, long);
+      no_longer = omega (arith, long);
+      kept = λ k h. ap (λ l. get_or l k 0) e ∙ get_or-take size old k 0 (omega (arith, h, long));
     }
 
 -- a write that was done is one that was begun

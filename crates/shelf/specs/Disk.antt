@@ -1,10 +1,15 @@
 -- Files as a shelf shows them. What a read gives is a relation between names and bytes, which has no pair at all
--- where the shelf doesn't tell. Each step points backwards: what is there after it comes from what was there before.
+-- where the shelf doesn't tell, and so is what a crash may leave. Each step points backwards: what is there after it
+-- comes from what was there before.
 use Rattle.std.specs.Prelude.{ℕ, ◌+◌, ◌<◌, ◌≤◌, ◌≡◌, ◌≢◌, List, [], length, take, drop, max, min, slice_index, Option, Some, None, IfSome}
 
 -- what a read gives: the bytes under each name
 abbrev pub Contents : Type 1
 Contents = List ℕ → List ℕ → Type 0
+
+-- what a crash may leave at each moment: the bytes under each name
+abbrev pub Images : Type 1
+Images = ℕ → Contents
 
 -- a file that is held: its name, and the greatest length that there is memory for
 pub record Held : Type 0 where
@@ -41,6 +46,10 @@ pub record Holds (before now : Slots) (slot : ℕ) (name : List ℕ) (most : ℕ
 abbrev pub Follows : (List ℕ → List ℕ → Type 0) → (List ℕ → Type 0) → (List ℕ → Type 0) → Type 0
 Follows step old new = (c : List ℕ) → new c → (d : List ℕ) × old d × step d c
 
+-- what is there is one of these
+abbrev pub Within : (List ℕ → Type 0) → (List ℕ → Type 0) → Type 0
+Within these new = (c : List ℕ) → new c → these c
+
 -- nothing new under any name
 abbrev pub SameContents : Contents → Contents → Type 0
 SameContents old new = (n c : List ℕ) → new n c → old n c
@@ -70,6 +79,12 @@ pub record Torn (at count : ℕ) (old new : List ℕ) : Type 0 where
 -- the file cut to a length
 abbrev pub Shortened : ℕ → List ℕ → List ℕ → Type 0
 Shortened size old new = new ≡ take size old
+
+-- the file cut to a length, as a crash may leave it: what is left stays, and the file has any length between
+pub record Cut (size : ℕ) (old new : List ℕ) : Type 0 where
+  pub no_shorter : min size (length old) ≤ length new
+  pub no_longer : length new ≤ length old
+  pub kept : (k : ℕ) → k < length new → slice_index new k ≡ slice_index old k
 
 -- a cut to a length was begun: the bytes below it stay, and the file has any length between
 pub record Trimmed (size : ℕ) (old new : List ℕ) : Type 0 where

@@ -1,12 +1,20 @@
 -- What a shelf in memory shows, and which of its calls fails.
 use Rattle.std.specs.Prelude.{ℕ, ◌≡◌, ◌+◌, ◌-◌, ◌^◌, min, ◌↔◌, ◌==◌, if◌then◌else◌}
 use Rattle.shelf.specs.declared.mem_shelf.MemShelf.{MemShelf}
-use Rattle.shelf.specs.Disk.{Contents, Slots}
+use Rattle.shelf.specs.Disk.{Contents, Images, Slots}
 use Rattle.shelf.specs.Stored.{slots_in, texts_in}
 
 -- what a read gives
 abbrev pub held_by : MemShelf → Contents
 held_by shelf = texts_in shelf.files.items
+
+-- what a crash may leave
+abbrev pub images_of : MemShelf → Images
+images_of shelf m = texts_in shelf.files.items
+
+-- the present moment
+abbrev pub moment_of : MemShelf → ℕ
+moment_of shelf = 0
 
 -- the files that are held
 abbrev pub slots_of : MemShelf → Slots

@@ -1,7 +1,8 @@
 // The storage of a run, as its callers see it.
 ghost use Rattle.std.specs.Prelude.{◌≡◌, ◌+◌, ◌≤◌, ℕ, List, length, IfOk, OnOk, OnErr, IsErr, IsErrOf, IsSome, None};
 ghost use Rattle.shelf.specs.Causes.{HasCause};
-ghost use Rattle.shelf.specs.Disk.{Contents, Slots, name_at, most_at, IsFree, SameSlots, Holds, Follows, SameContents, SameOthers, Tells, Written, Torn, Shortened, Trimmed, bytes_from};
+ghost use Rattle.shelf.specs.Disk.{Contents, Images, Slots, name_at, most_at, IsFree, SameSlots, Holds, Follows, Within, SameContents, SameOthers, Tells, Written, Torn, Shortened, Cut, Trimmed, bytes_from};
+ghost use Rattle.shelf.specs.Moments.{Passes};
 
 use crate::Failed;
 use std::alloc::Global;
@@ -17,17 +18,31 @@ pub enum HoldFail {
 
 /// The storage: files by name, of which some are held open, each under a slot number.
 /// A file that isn't there and one of length 0 are the same.
-/// A shelf may tell what a read of each name gives; over one that doesn't tell, the clauses on
-/// contents say nothing.
+/// A shelf may tell what a read of each name gives, and what a crash may leave: the present images
+/// and those of earlier moments. Over one that doesn't tell, the clauses on these say nothing.
+/// Between two syncs of a file each range that was written, and all past the old end, may hold any
+/// bytes, and the file may have any length that it had since the sync or one between; its other
+/// bytes stay. After a sync that succeeds, a crash leaves what a read gives.
 pub trait Shelf: Drop {
     /// A read of this name gives these bytes.
     ghost holds: { Self → Contents };
+
+    /// At this moment a crash may leave these bytes under this name. A moment that isn't told has
+    /// none at all.
+    ghost images: { Self → Images };
+
+    /// The present moment. It never falls.
+    ghost moment: { Self → ℕ };
 
     /// The files that are held.
     ghost slots: { Self → Slots };
 
     /// How often the storage has failed.
     ghost faults: { Self → ℕ };
+
+    /// What a read gives is one of the present images.
+    ghost reads_an_image: { (shelf : Self) (name bytes : List ℕ) → holds shelf name bytes →
+        images shelf (moment shelf) name bytes };
 
     /// Makes the name ready, and takes all memory that its file needs up to `most` bytes.
     fn hold(&mut self, alloc: Global, name: &[u8], most: u64) -> Result<u32, HoldFail>
@@ -37,6 +52,9 @@ pub trait Shelf: Drop {
         ensures refused { OnErr result (SameSlots (slots self.old) (slots self.new)) }
         ensures contents { SameContents (holds self.old) (holds self.new) }
         ensures tells { Tells (holds self.old) (holds self.new) }
+        ensures crash { SameContents (images self.old (moment self.old))
+            (images self.new (moment self.new)) }
+        ensures time { Passes (moment self.old) (moment self.new) (images self.old) (images self.new) }
         ensures cause { HasCause (faults self.old) (faults self.new)
             (IsErrOf result HoldFail.Failed) };
 
@@ -45,6 +63,9 @@ pub trait Shelf: Drop {
         ensures free { (k : ℕ) → slots self.new k ≡ None }
         ensures contents { SameContents (holds self.old) (holds self.new) }
         ensures tells { Tells (holds self.old) (holds self.new) }
+        ensures crash { SameContents (images self.old (moment self.old))
+            (images self.new (moment self.new)) }
+        ensures time { Passes (moment self.old) (moment self.new) (images self.old) (images self.new) }
         ensures later { faults self.old ≤ faults self.new };
 
     /// How many bytes the file has.
@@ -54,6 +75,9 @@ pub trait Shelf: Drop {
             holds self.old (name_at (slots self.old slot)) c → size ≡ length c) }
         ensures contents { SameContents (holds self.old) (holds self.new) }
         ensures tells { Tells (holds self.old) (holds self.new) }
+        ensures crash { SameContents (images self.old (moment self.old))
+            (images self.new (moment self.new)) }
+        ensures time { Passes (moment self.old) (moment self.new) (images self.old) (images self.new) }
         ensures slots { SameSlots (slots self.old) (slots self.new) }
         ensures cause { HasCause (faults self.old) (faults self.new) (IsErr result) };
 
@@ -67,6 +91,9 @@ pub trait Shelf: Drop {
             out.new ≡ bytes_from at (length out.old) c) }
         ensures contents { SameContents (holds self.old) (holds self.new) }
         ensures tells { Tells (holds self.old) (holds self.new) }
+        ensures crash { SameContents (images self.old (moment self.old))
+            (images self.new (moment self.new)) }
+        ensures time { Passes (moment self.old) (moment self.new) (images self.old) (images self.new) }
         ensures slots { SameSlots (slots self.old) (slots self.new) }
         ensures cause { HasCause (faults self.old) (faults self.new) (IsErr result) };
 
@@ -85,6 +112,12 @@ pub trait Shelf: Drop {
         ensures others { SameOthers (name_at (slots self.old slot))
             (holds self.old) (holds self.new) }
         ensures tells { Tells (holds self.old) (holds self.new) }
+        ensures crash { Follows (Torn at (length bytes.now))
+            (images self.old (moment self.old) (name_at (slots self.old slot)))
+            (images self.new (moment self.new) (name_at (slots self.old slot))) }
+        ensures crash_others { SameOthers (name_at (slots self.old slot))
+            (images self.old (moment self.old)) (images self.new (moment self.new)) }
+        ensures time { Passes (moment self.old) (moment self.new) (images self.old) (images self.new) }
         ensures slots { SameSlots (slots self.old) (slots self.new) }
         ensures cause { HasCause (faults self.old) (faults self.new) (IsErr result) };
 
@@ -102,14 +135,29 @@ pub trait Shelf: Drop {
         ensures others { SameOthers (name_at (slots self.old slot))
             (holds self.old) (holds self.new) }
         ensures tells { Tells (holds self.old) (holds self.new) }
+        ensures crash_cut { OnOk result (Follows (Cut size)
+            (images self.old (moment self.old) (name_at (slots self.old slot)))
+            (images self.new (moment self.new) (name_at (slots self.old slot)))) }
+        ensures crash { Follows (Trimmed size)
+            (images self.old (moment self.old) (name_at (slots self.old slot)))
+            (images self.new (moment self.new) (name_at (slots self.old slot))) }
+        ensures crash_others { SameOthers (name_at (slots self.old slot))
+            (images self.old (moment self.old)) (images self.new (moment self.new)) }
+        ensures time { Passes (moment self.old) (moment self.new) (images self.old) (images self.new) }
         ensures slots { SameSlots (slots self.old) (slots self.new) }
         ensures cause { HasCause (faults self.old) (faults self.new) (IsErr result) };
 
     /// Makes sure that what a read gives outlives a crash.
     fn sync(&mut self, slot: u32) -> Result<(), Failed>
         requires { IsSome (slots self.old slot) }
+        ensures durable { OnOk result (Within
+            (holds self.new (name_at (slots self.old slot)))
+            (images self.new (moment self.new) (name_at (slots self.old slot)))) }
         ensures contents { SameContents (holds self.old) (holds self.new) }
         ensures tells { Tells (holds self.old) (holds self.new) }
+        ensures crash { SameContents (images self.old (moment self.old))
+            (images self.new (moment self.new)) }
+        ensures time { Passes (moment self.old) (moment self.new) (images self.old) (images self.new) }
         ensures slots { SameSlots (slots self.old) (slots self.new) }
         ensures cause { HasCause (faults self.old) (faults self.new) (IsErr result) };
 }

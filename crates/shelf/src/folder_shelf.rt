@@ -41,11 +41,17 @@ impl<R: Files + Send + Drop> FolderShelf<R> {
 impl<R: Files + Send + Drop> Shelf for FolderShelf<R> {
     ghost holds = { λ _ _ _. ⊥ };
 
+    ghost images = { λ _ _ _ _. ⊥ };
+
+    ghost moment = { λ _. 0 };
+
     ghost slots = { λ shelf k.
         option_map (λ file. record { name = file.name.items; most = file.most })
         (slice_get shelf.opened.items k) };
 
     ghost faults = { λ shelf. shelf.failures };
+
+    ghost reads_an_image = { λ _ _ _ held. held };
 
     fn hold(&mut self, alloc: Global, name: &[u8], most: u64) -> Result<u32, HoldFail> {
         let Ok(slot) = u32::try_from(self.opened.len()) else {

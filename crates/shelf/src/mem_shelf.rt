@@ -1,7 +1,8 @@
 // The storage in memory, with failures on demand.
 ghost use Rattle.std.specs.Prelude.{◌≡◌, ◌+◌, ◌-◌, ◌^◌, ◌≤◌, ◌↔◌, ◌==◌, min, ℕ, List, [], length, IfOk, IfSome, IfNone, OnOk, OnErr, IsErr, IsErrOf, IsSome, IsSomeAnd, IsTrue, None, slice_get, if◌then◌else◌};
 ghost use Rattle.shelf.specs.Causes.{HasCause};
-ghost use Rattle.shelf.specs.Disk.{name_at, most_at, IsFree, SameSlots, Holds, Follows, SameContents, SameOthers, Tells, Written, Torn, Shortened, Trimmed, bytes_from};
+ghost use Rattle.shelf.specs.Disk.{name_at, most_at, IsFree, SameSlots, Holds, Follows, Within, SameContents, SameOthers, Tells, Written, Torn, Shortened, Cut, Trimmed, bytes_from};
+ghost use Rattle.shelf.specs.Moments.{Passes};
 ghost use Rattle.shelf.specs.Stored.{Stored, slots_in, texts_in, IsAbsent, OneEach};
 
 use crate::count::raise;
@@ -59,13 +60,19 @@ impl MemShelf {
 }
 
 impl Shelf for MemShelf {
-    ghost use Rattle.shelf.specs.Memory.{held_by, slots_of, failures_of, failing_in, TakesTurn};
+    ghost use Rattle.shelf.specs.Memory.{held_by, images_of, moment_of, slots_of, failures_of, failing_in, TakesTurn};
 
     ghost holds = { λ shelf. held_by shelf };
+
+    ghost images = { λ shelf. images_of shelf };
+
+    ghost moment = { λ shelf. moment_of shelf };
 
     ghost slots = { λ shelf. slots_of shelf };
 
     ghost faults = { λ shelf. failures_of shelf };
+
+    ghost reads_an_image = { λ _ _ _ held. held };
 
     fn hold(&mut self, alloc: Global, name: &[u8], most: u64) -> Result<u32, HoldFail>
         requires { IsFree (slots_of self.old) name.now }
@@ -74,6 +81,9 @@ impl Shelf for MemShelf {
         ensures refused { OnErr result (SameSlots (slots_of self.old) (slots_of self.new)) }
         ensures contents { SameContents (held_by self.old) (held_by self.new) }
         ensures tells { Tells (held_by self.old) (held_by self.new) }
+        ensures crash { SameContents (images_of self.old (moment_of self.old))
+            (images_of self.new (moment_of self.new)) }
+        ensures time { Passes (moment_of self.old) (moment_of self.new) (images_of self.old) (images_of self.new) }
         ensures cause { HasCause (failures_of self.old) (failures_of self.new)
             (IsErrOf result HoldFail.Failed) }
         ensures turn { TakesTurn self.old self.new (IsErrOf result HoldFail.Failed) }
@@ -91,6 +101,9 @@ impl Shelf for MemShelf {
         ensures free { (k : ℕ) → slots_of self.new k ≡ None }
         ensures contents { SameContents (held_by self.old) (held_by self.new) }
         ensures tells { Tells (held_by self.old) (held_by self.new) }
+        ensures crash { SameContents (images_of self.old (moment_of self.old))
+            (images_of self.new (moment_of self.new)) }
+        ensures time { Passes (moment_of self.old) (moment_of self.new) (images_of self.old) (images_of self.new) }
         ensures later { failures_of self.old ≤ failures_of self.new }
         ensures failures { failures_of self.new ≡ failures_of self.old }
         ensures failing { failing_in self.new ≡ failing_in self.old }
@@ -104,6 +117,9 @@ impl Shelf for MemShelf {
             held_by self.old (name_at (slots_of self.old slot)) c → size ≡ length c) }
         ensures contents { SameContents (held_by self.old) (held_by self.new) }
         ensures tells { Tells (held_by self.old) (held_by self.new) }
+        ensures crash { SameContents (images_of self.old (moment_of self.old))
+            (images_of self.new (moment_of self.new)) }
+        ensures time { Passes (moment_of self.old) (moment_of self.new) (images_of self.old) (images_of self.new) }
         ensures slots { SameSlots (slots_of self.old) (slots_of self.new) }
         ensures cause { HasCause (failures_of self.old) (failures_of self.new) (IsErr result) }
         ensures turn { TakesTurn self.old self.new (IsErr result) }
@@ -123,6 +139,9 @@ impl Shelf for MemShelf {
             out.new ≡ bytes_from at (length out.old) c) }
         ensures contents { SameContents (held_by self.old) (held_by self.new) }
         ensures tells { Tells (held_by self.old) (held_by self.new) }
+        ensures crash { SameContents (images_of self.old (moment_of self.old))
+            (images_of self.new (moment_of self.new)) }
+        ensures time { Passes (moment_of self.old) (moment_of self.new) (images_of self.old) (images_of self.new) }
         ensures slots { SameSlots (slots_of self.old) (slots_of self.new) }
         ensures cause { HasCause (failures_of self.old) (failures_of self.new) (IsErr result) }
         ensures turn { TakesTurn self.old self.new (IsErr result) }
@@ -151,6 +170,12 @@ impl Shelf for MemShelf {
         ensures others { SameOthers (name_at (slots_of self.old slot))
             (held_by self.old) (held_by self.new) }
         ensures tells { Tells (held_by self.old) (held_by self.new) }
+        ensures crash { Follows (Torn at (length bytes.now))
+            (images_of self.old (moment_of self.old) (name_at (slots_of self.old slot)))
+            (images_of self.new (moment_of self.new) (name_at (slots_of self.old slot))) }
+        ensures crash_others { SameOthers (name_at (slots_of self.old slot))
+            (images_of self.old (moment_of self.old)) (images_of self.new (moment_of self.new)) }
+        ensures time { Passes (moment_of self.old) (moment_of self.new) (images_of self.old) (images_of self.new) }
         ensures slots { SameSlots (slots_of self.old) (slots_of self.new) }
         ensures cause { HasCause (failures_of self.old) (failures_of self.new) (IsErr result) }
         ensures turn { TakesTurn self.old self.new (IsErr result) }
@@ -176,6 +201,15 @@ impl Shelf for MemShelf {
         ensures others { SameOthers (name_at (slots_of self.old slot))
             (held_by self.old) (held_by self.new) }
         ensures tells { Tells (held_by self.old) (held_by self.new) }
+        ensures crash_cut { OnOk result (Follows (Cut size)
+            (images_of self.old (moment_of self.old) (name_at (slots_of self.old slot)))
+            (images_of self.new (moment_of self.new) (name_at (slots_of self.old slot)))) }
+        ensures crash { Follows (Trimmed size)
+            (images_of self.old (moment_of self.old) (name_at (slots_of self.old slot)))
+            (images_of self.new (moment_of self.new) (name_at (slots_of self.old slot))) }
+        ensures crash_others { SameOthers (name_at (slots_of self.old slot))
+            (images_of self.old (moment_of self.old)) (images_of self.new (moment_of self.new)) }
+        ensures time { Passes (moment_of self.old) (moment_of self.new) (images_of self.old) (images_of self.new) }
         ensures slots { SameSlots (slots_of self.old) (slots_of self.new) }
         ensures cause { HasCause (failures_of self.old) (failures_of self.new) (IsErr result) }
         ensures turn { TakesTurn self.old self.new (IsErr result) }
@@ -190,8 +224,14 @@ impl Shelf for MemShelf {
 
     fn sync(&mut self, slot: u32) -> Result<(), Failed>
         requires { IsSome (slots_of self.old slot) }
+        ensures durable { OnOk result (Within
+            (held_by self.new (name_at (slots_of self.old slot)))
+            (images_of self.new (moment_of self.new) (name_at (slots_of self.old slot)))) }
         ensures contents { SameContents (held_by self.old) (held_by self.new) }
         ensures tells { Tells (held_by self.old) (held_by self.new) }
+        ensures crash { SameContents (images_of self.old (moment_of self.old))
+            (images_of self.new (moment_of self.new)) }
+        ensures time { Passes (moment_of self.old) (moment_of self.new) (images_of self.old) (images_of self.new) }
         ensures slots { SameSlots (slots_of self.old) (slots_of self.new) }
         ensures cause { HasCause (failures_of self.old) (failures_of self.new) (IsErr result) }
         ensures turn { TakesTurn self.old self.new (IsErr result) }

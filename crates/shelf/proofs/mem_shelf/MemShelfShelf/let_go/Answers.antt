@@ -19,3 +19,11 @@ returns-clause-tells c =
     let long : length new ≡ files.len = omega (arith, c.deref_mut.ensures.len) in
     subst (λ l. Tells (texts_in files.items) (texts_in l)) (sym (with_items_is files new long))
     (subst (λ l. Tells (texts_in l) (texts_in new)) c.deref_mut.ensures.value c.let_go_all.ensures.tells)
+
+pub returns-clause-crash : goal.returns-clause-crash
+returns-clause-crash c =
+    let files = c.args.self.now.files in
+    let new = c.let_go_all.new.files in
+    let long : length new ≡ files.len = omega (arith, c.deref_mut.ensures.len) in
+    subst (λ l. SameContents (texts_in files.items) (texts_in l)) (sym (with_items_is files new long))
+    (subst (λ l. SameContents (texts_in l) (texts_in new)) c.deref_mut.ensures.value c.let_go_all.ensures.contents)
