@@ -7,7 +7,7 @@ use Rattle.povfix.specs.declared.options.Plan.{Plan}
 use Rattle.povfix.specs.declared.outcome.Fault.{Fault}
 use Rattle.povfix.specs.declared.outcome.Fault.TheVariants.{SceneFault, NoMemory}
 use Rattle.povfix.specs.declared.parser.Refusal.{Refusal}
-use Rattle.povfix.specs.Texts.{IsWithinLimit}
+use Rattle.directive_machine.specs.Texts.{IsWithinLimit}
 use Rattle.povfix.specs.Verdict.{lexed_fault, parsed_fault, IsMeaningless, IsTextFault}
 
 placed : (plan : Plan) (text : List ℕ) (fault : Fault) (letter kind : ℕ) (place : Place) → fault ≡ SceneFault letter kind place → IsWithinLimit plan.input text → IsMeaningless plan text fault → IsTextFault plan text fault

@@ -10,7 +10,7 @@ use Rattle.scene_lexer.specs.declared.token.Token.{Token as TextToken}
 use Rattle.image_out.specs.declared.picture.Sort.TheVariants.{Ppm}
 use Rattle.image_out.specs.Files.{file_of}
 use Rattle.povfix.specs.declared.options.Plan.{Plan}
-use Rattle.povfix.specs.declared.texts.Text.{Text}
+use Rattle.directive_machine.specs.declared.texts.Text.{Text}
 use Rattle.povfix.specs.Grammar.{Painted, Drawn, settings_of, IsScene}
 use Rattle.povfix.specs.Picture.{pixel_ray_of, bytes_of, IsBallHit, Shows, IsPicture}
 use Rattle.povfix.specs.Verdict.{IsMeant, IsDrawn, IsImage, IsMeaning}

@@ -8,11 +8,11 @@ use Rattle.povfix.specs.declared.options.OptionFault.{OptionFault as Refused}
 use Rattle.povfix.specs.declared.outcome.Fault.{Fault}
 use Rattle.povfix.specs.declared.outcome.Fault.TheVariants.{Done, OptionFault, SceneFault, Limit, Absent, TextFault, ShelfFault, NoMemory}
 use Rattle.povfix.specs.declared.parser.Refusal.{Refusal}
-use Rattle.povfix.specs.declared.texts.Text.{Text}
+use Rattle.directive_machine.specs.declared.texts.Text.{Text}
 use Rattle.povfix.specs.Lines.{IsPlaced}
 use Rattle.povfix.specs.Grammar.{settings_of, IsScene}
 use Rattle.povfix.specs.Options.{plan_of}
-use Rattle.povfix.specs.Texts.{text_of, IsWithinLimit}
+use Rattle.directive_machine.specs.Texts.{text_of, IsWithinLimit}
 use Rattle.povfix.specs.Verdict.{lexed_fault, parsed_fault, text_start, refused_fault, HasImage, IsCaused, IsFound, IsInner, IsLexed, IsMeaningless, IsParsed, IsPlanned, IsVerdict}
 use Rattle.povfix.proofs.PlanSides.{refusal_own}
 use Rattle.povfix.proofs.OneScene.{one_scene}

@@ -3,5 +3,4 @@ pub mod Ranges
 pub mod Grammar
 pub mod Picture
 pub mod Lines
-pub mod Texts
 pub mod Verdict

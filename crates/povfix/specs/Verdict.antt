@@ -9,9 +9,9 @@ use Rattle.povfix.specs.declared.options.Plan.{Plan}
 use Rattle.povfix.specs.declared.options.OptionFault.{OptionFault as Refused}
 use Rattle.povfix.specs.declared.outcome.Fault.{Fault}
 use Rattle.povfix.specs.declared.outcome.Fault.TheVariants.{Done, OptionFault, SceneFault, Limit, Absent, TextFault, ShelfFault, NoMemory}
-use Rattle.povfix.specs.declared.texts.Text.{Text}
+use Rattle.directive_machine.specs.declared.texts.Text.{Text}
 use Rattle.povfix.specs.Options.{plan_of}
-use Rattle.povfix.specs.Texts.{text_of, IsWithinLimit}
+use Rattle.directive_machine.specs.Texts.{text_of, IsWithinLimit}
 use Rattle.povfix.specs.declared.parser.Refusal.{Refusal}
 use Rattle.povfix.specs.Grammar.{Drawn, IsScene, settings_of}
 use Rattle.povfix.specs.Picture.{IsPicture}

@@ -2,7 +2,7 @@
 ghost use Rattle.std.specs.Prelude.{◌≡◌, ◌≤◌, ◌<◌, ◌*◌, ◌^◌, IfOk, IfErr, MatchBool, length};
 ghost use Rattle.povfix.specs.Grammar.{drawn_of, settings_of, IsScene};
 ghost use Rattle.povfix.specs.Picture.{IsPicture};
-ghost use Rattle.povfix.specs.Texts.{IsWithinLimit};
+ghost use Rattle.directive_machine.specs.Texts.{IsWithinLimit};
 ghost use Rattle.povfix.specs.Verdict.{lexed_fault, parsed_fault, IsDrawn, IsImage, IsMeaningless, IsMeant, IsSides, IsTextFault};
 ghost use Rattle.image_out.specs.Files.{file_of};
 ghost use Rattle.scene_expr.specs.Values.{AreWhole};

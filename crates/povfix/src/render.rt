@@ -2,10 +2,10 @@
 ghost use Rattle.std.specs.Prelude.{◌≡◌, ◌⊎◌, List, [], Some, Ok, map, string_bytes, IfOk, IfErr, IsErrOf};
 ghost use Rattle.shelf.specs.Causes.{HasCause, Rose};
 ghost use Rattle.shelf.specs.Disk.{Tells};
-ghost use Rattle.povfix.specs.declared.texts.Text.{Text};
+ghost use Rattle.directive_machine.specs.declared.texts.Text.{Text};
 ghost use Rattle.povfix.specs.Lines.{line_of, status_of, IsPlaced, Says};
 ghost use Rattle.povfix.specs.Options.{plan_of};
-ghost use Rattle.povfix.specs.Texts.{text_of};
+ghost use Rattle.directive_machine.specs.Texts.{text_of};
 ghost use Rattle.povfix.specs.Verdict.{finished_of, input_of, refused_fault, IsCaused, IsEarly, IsFound, IsMeaning, IsOptionAnswer, IsPlanFault, IsSides, IsStored, IsUntouched, IsVerdict, OthersStay};
 
 use crate::image_file::image_file;
@@ -13,7 +13,7 @@ use crate::options::{self, OptionFault, Plan};
 use crate::outcome::{Fault, Outcome};
 use crate::say::{status, tell};
 use crate::store::store;
-use crate::texts::{ReadFail, Texts};
+use directive_machine::{ReadFail, Texts};
 use fix_math::Str;
 use shelf::{HoldFail, Shelf, Sink};
 use std::alloc::Global;

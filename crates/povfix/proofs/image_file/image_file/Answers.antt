@@ -1,5 +1,5 @@
 use Rattle.std.proofs.Common.{subst}
-use Rattle.povfix.specs.Texts.{IsWithinLimit}
+use Rattle.directive_machine.specs.Texts.{IsWithinLimit}
 use Rattle.povfix.proofs.Meanings.{meaningless_fault}
 use Rattle.povfix.proofs.image_file.image_file.Goals as goal
 

@@ -1,8 +1,8 @@
 // Texts in memory, with failures on demand.
 ghost use Rattle.std.specs.Prelude.{◌≡◌, ◌+◌, ◌-◌, ◌^◌, ◌==◌, ◌↔◌, List, [], min, Option, Some, option_map, option_copied, IfOk, OnOk, OnErr, IsErrOf, if◌then◌else◌};
 ghost use Rattle.shelf.specs.Causes.{HasCause};
-ghost use Rattle.povfix.specs.declared.texts.Text.{Text};
-ghost use Rattle.povfix.specs.Texts.{text_of, with_text};
+ghost use Rattle.directive_machine.specs.declared.texts.Text.{Text};
+ghost use Rattle.directive_machine.specs.Texts.{text_of, with_text};
 
 use crate::texts::{ReadFail, Text, Texts};
 use fix_math::Str;

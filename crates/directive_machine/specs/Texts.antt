@@ -1,7 +1,7 @@
 -- Scene texts by their names.
 use Rattle.std.specs.Prelude.{ℕ, ◌+◌, ◌≤◌, ◌^◌, if◌then◌else◌, List, [], ◌∷◌, length, Option, Some, None}
 use Rattle.std.specs.Str.{bytes_eq}
-use Rattle.povfix.specs.declared.texts.Text.{Text}
+use Rattle.directive_machine.specs.declared.texts.Text.{Text}
 
 -- the text that is held under a name
 abbrev pub text_of : List Text → List ℕ → Option (List ℕ)

@@ -1,8 +1,8 @@
 // Where scene texts come from.
 ghost use Rattle.std.specs.Prelude.{◌≡◌, ℕ, List, Option, Some, option_map, IfOk, IsErrOf};
 ghost use Rattle.shelf.specs.Causes.{HasCause};
-ghost use Rattle.povfix.specs.declared.texts.Text.{Text};
-ghost use Rattle.povfix.specs.Texts.{text_of};
+ghost use Rattle.directive_machine.specs.declared.texts.Text.{Text};
+ghost use Rattle.directive_machine.specs.Texts.{text_of};
 
 use fix_math::Str;
 use std::alloc::Global;

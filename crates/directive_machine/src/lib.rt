@@ -1,0 +1,14 @@
+//! The directives of a scene: the texts that it is made of, and the flat list of tokens that they come to.
+#![tactic(auto)]
+
+mod flat;
+mod folder_texts;
+mod mem_texts;
+mod stop;
+mod texts;
+
+pub use flat::{Flat, Source};
+pub use folder_texts::FolderTexts;
+pub use mem_texts::MemTexts;
+pub use stop::Stop;
+pub use texts::{ReadFail, Text, Texts};
