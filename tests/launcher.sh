@@ -93,7 +93,7 @@ export RT_FAILS=yes
 run "$clone/povfix" +Ia.pov
 unset RT_FAILS
 equal 'a build that fails ends with status 125' 125 "$status"
-holds 'and with what rt said' "$messages" 'middle is not proved' 'build.log'
+holds 'and with what rt said' "$messages" 'status 1 at middle' 'middle is not proved' 'build.log'
 calls >/dev/null
 mkdir "$here/folder"
 cd "$here/folder"
@@ -126,6 +126,10 @@ sleep 0.1
 rm "$clone/crates/middle/specs/Lib.antt"
 run "$clone/povfix" a
 equal 'after a file has gone it is built again' "$every_call" "$(calls)"
+sleep 0.1
+echo changed >"$clone/crates/unused/src/lib.rt"
+run "$clone/povfix" a
+equal 'after a change in a crate that the program is not made of it is not built again' '' "$(calls)"
 sleep 0.1
 touch "$clone/crates.txt"
 export RT_FAILS=yes
