@@ -18,6 +18,7 @@ pub use heads::place_at;
 pub use law::one_value;
 pub use reader::eval;
 pub use value::{ExprFault, Level, Settings, Value};
+pub use words::{WordClass, word_class};
 
 #[cfg(test)]
 mod tests;

@@ -1,6 +1,6 @@
 // The words that an expression may begin with. (Reference manual, float and vector expressions and functions, and colours)
 ghost use Rattle.std.specs.Prelude.{◌≡◌};
-ghost use Rattle.scene_expr.specs.Words.{exactly, at_least, arity_of, constant_of, number_call_of, other_call_of, call_of, form_of, channel_of, axis_of, component_of, is_colour_word, word_of};
+ghost use Rattle.scene_expr.specs.Words.{exactly, at_least, arity_of, meaning_in, word_of, channel_in, component_in, channel_of, component_of, class_in, class_of};
 
 /// A word that stands for a value.
 #[derive(Clone, Copy)]
@@ -139,199 +139,74 @@ pub enum Word {
     Channel(Channel),
 }
 
-fn constant_of(word: &[u8]) -> Option<Constant>
-    ensures { result ≡ constant_of word.now }
-{
-    if word == b"x".as_slice() {
-        Some(Constant::X)
-    } else if word == b"y".as_slice() {
-        Some(Constant::Y)
-    } else if word == b"z".as_slice() {
-        Some(Constant::Z)
-    } else if word == b"pi".as_slice() {
-        Some(Constant::Pi)
-    } else if word == b"true".as_slice() {
-        Some(Constant::True)
-    } else if word == b"on".as_slice() {
-        Some(Constant::True)
-    } else if word == b"yes".as_slice() {
-        Some(Constant::True)
-    } else if word == b"false".as_slice() {
-        Some(Constant::False)
-    } else if word == b"off".as_slice() {
-        Some(Constant::False)
-    } else if word == b"no".as_slice() {
-        Some(Constant::False)
-    } else if word == b"clock".as_slice() {
-        Some(Constant::Clock)
-    } else if word == b"initial_clock".as_slice() {
-        Some(Constant::InitialClock)
-    } else if word == b"final_clock".as_slice() {
-        Some(Constant::FinalClock)
-    } else if word == b"frame_number".as_slice() {
-        Some(Constant::FrameNumber)
-    } else if word == b"initial_frame".as_slice() {
-        Some(Constant::InitialFrame)
-    } else if word == b"final_frame".as_slice() {
-        Some(Constant::FinalFrame)
-    } else if word == b"image_width".as_slice() {
-        Some(Constant::ImageWidth)
-    } else if word == b"image_height".as_slice() {
-        Some(Constant::ImageHeight)
-    } else if word == b"version".as_slice() {
-        Some(Constant::Version)
-    } else {
-        None
-    }
-}
+/// The words of expressions, each with what it begins. The definitions read this very table.
+static WORDS: [(&[u8], Word); 54] = [
+    (b"color", Word::Colour),
+    (b"colour", Word::Colour),
+    (b"x", Word::Constant(Constant::X)),
+    (b"y", Word::Constant(Constant::Y)),
+    (b"z", Word::Constant(Constant::Z)),
+    (b"pi", Word::Constant(Constant::Pi)),
+    (b"true", Word::Constant(Constant::True)),
+    (b"on", Word::Constant(Constant::True)),
+    (b"yes", Word::Constant(Constant::True)),
+    (b"false", Word::Constant(Constant::False)),
+    (b"off", Word::Constant(Constant::False)),
+    (b"no", Word::Constant(Constant::False)),
+    (b"clock", Word::Constant(Constant::Clock)),
+    (b"initial_clock", Word::Constant(Constant::InitialClock)),
+    (b"final_clock", Word::Constant(Constant::FinalClock)),
+    (b"frame_number", Word::Constant(Constant::FrameNumber)),
+    (b"initial_frame", Word::Constant(Constant::InitialFrame)),
+    (b"final_frame", Word::Constant(Constant::FinalFrame)),
+    (b"image_width", Word::Constant(Constant::ImageWidth)),
+    (b"image_height", Word::Constant(Constant::ImageHeight)),
+    (b"version", Word::Constant(Constant::Version)),
+    (b"rgb", Word::Form(ColourForm::Rgb)),
+    (b"rgbf", Word::Form(ColourForm::Rgbf)),
+    (b"rgbt", Word::Form(ColourForm::Rgbt)),
+    (b"rgbft", Word::Form(ColourForm::Rgbft)),
+    (b"red", Word::Channel(Channel::Red)),
+    (b"green", Word::Channel(Channel::Green)),
+    (b"blue", Word::Channel(Channel::Blue)),
+    (b"filter", Word::Channel(Channel::Filter)),
+    (b"transmit", Word::Channel(Channel::Transmit)),
+    (b"abs", Word::Call(Call::Abs)),
+    (b"ceil", Word::Call(Call::Ceil)),
+    (b"floor", Word::Call(Call::Floor)),
+    (b"int", Word::Call(Call::Int)),
+    (b"sqrt", Word::Call(Call::Sqrt)),
+    (b"sin", Word::Call(Call::Sin)),
+    (b"cos", Word::Call(Call::Cos)),
+    (b"tan", Word::Call(Call::Tan)),
+    (b"radians", Word::Call(Call::Radians)),
+    (b"degrees", Word::Call(Call::Degrees)),
+    (b"mod", Word::Call(Call::Mod)),
+    (b"div", Word::Call(Call::Div)),
+    (b"pow", Word::Call(Call::Pow)),
+    (b"min", Word::Call(Call::Min)),
+    (b"max", Word::Call(Call::Max)),
+    (b"vdot", Word::Call(Call::Vdot)),
+    (b"vcross", Word::Call(Call::Vcross)),
+    (b"vrotate", Word::Call(Call::Vrotate)),
+    (b"vlength", Word::Call(Call::Vlength)),
+    (b"vnormalize", Word::Call(Call::Vnormalize)),
+    (b"strlen", Word::Call(Call::Strlen)),
+    (b"concat", Word::Call(Call::Concat)),
+    (b"chr", Word::Call(Call::Chr)),
+    (b"str", Word::Call(Call::Str)),
+];
 
-/// The call of numbers that this word names.
-fn number_call_of(word: &[u8]) -> Option<Call>
-    ensures { result ≡ number_call_of word.now }
+/// What the first entry means that is spelled like the word.
+fn meaning_in(table: &[(&[u8], Word)], word: &[u8]) -> Option<Word>
+    ensures { result ≡ meaning_in (λ entry. entry.0.now) (λ entry. entry.1) word.now table.now }
 {
-    if word == b"abs".as_slice() {
-        Some(Call::Abs)
-    } else if word == b"ceil".as_slice() {
-        Some(Call::Ceil)
-    } else if word == b"floor".as_slice() {
-        Some(Call::Floor)
-    } else if word == b"int".as_slice() {
-        Some(Call::Int)
-    } else if word == b"sqrt".as_slice() {
-        Some(Call::Sqrt)
-    } else if word == b"sin".as_slice() {
-        Some(Call::Sin)
-    } else if word == b"cos".as_slice() {
-        Some(Call::Cos)
-    } else if word == b"tan".as_slice() {
-        Some(Call::Tan)
-    } else if word == b"radians".as_slice() {
-        Some(Call::Radians)
-    } else if word == b"degrees".as_slice() {
-        Some(Call::Degrees)
-    } else if word == b"mod".as_slice() {
-        Some(Call::Mod)
-    } else if word == b"div".as_slice() {
-        Some(Call::Div)
-    } else if word == b"pow".as_slice() {
-        Some(Call::Pow)
-    } else if word == b"min".as_slice() {
-        Some(Call::Min)
-    } else if word == b"max".as_slice() {
-        Some(Call::Max)
-    } else {
-        None
+    for (spelling, meaning) in table {
+        if word == *spelling {
+            return Some(*meaning);
+        }
     }
-}
-
-/// The call of vectors or texts that this word names.
-fn other_call_of(word: &[u8]) -> Option<Call>
-    ensures { result ≡ other_call_of word.now }
-{
-    if word == b"vdot".as_slice() {
-        Some(Call::Vdot)
-    } else if word == b"vcross".as_slice() {
-        Some(Call::Vcross)
-    } else if word == b"vrotate".as_slice() {
-        Some(Call::Vrotate)
-    } else if word == b"vlength".as_slice() {
-        Some(Call::Vlength)
-    } else if word == b"vnormalize".as_slice() {
-        Some(Call::Vnormalize)
-    } else if word == b"strlen".as_slice() {
-        Some(Call::Strlen)
-    } else if word == b"concat".as_slice() {
-        Some(Call::Concat)
-    } else if word == b"chr".as_slice() {
-        Some(Call::Chr)
-    } else if word == b"str".as_slice() {
-        Some(Call::Str)
-    } else {
-        None
-    }
-}
-
-fn form_of(word: &[u8]) -> Option<ColourForm>
-    ensures { result ≡ form_of word.now }
-{
-    if word == b"rgb".as_slice() {
-        Some(ColourForm::Rgb)
-    } else if word == b"rgbf".as_slice() {
-        Some(ColourForm::Rgbf)
-    } else if word == b"rgbt".as_slice() {
-        Some(ColourForm::Rgbt)
-    } else if word == b"rgbft".as_slice() {
-        Some(ColourForm::Rgbft)
-    } else {
-        None
-    }
-}
-
-/// The number of a colour that this word names.
-pub fn channel_of(word: &[u8]) -> Option<Channel>
-    ensures { result ≡ channel_of word.now }
-{
-    if word == b"red".as_slice() {
-        Some(Channel::Red)
-    } else if word == b"green".as_slice() {
-        Some(Channel::Green)
-    } else if word == b"blue".as_slice() {
-        Some(Channel::Blue)
-    } else if word == b"filter".as_slice() {
-        Some(Channel::Filter)
-    } else if word == b"transmit".as_slice() {
-        Some(Channel::Transmit)
-    } else {
-        None
-    }
-}
-
-fn axis_of(word: &[u8]) -> Option<Axis>
-    ensures { result ≡ axis_of word.now }
-{
-    if word == b"x".as_slice() {
-        Some(Axis::X)
-    } else if word == b"y".as_slice() {
-        Some(Axis::Y)
-    } else if word == b"z".as_slice() {
-        Some(Axis::Z)
-    } else {
-        None
-    }
-}
-
-/// What this word names behind a dot.
-pub fn component_of(word: &[u8]) -> Option<Component>
-    ensures { result ≡ component_of word.now }
-{
-    if let Some(axis) = axis_of(word) {
-        return Some(Component::Axis(axis));
-    }
-    match channel_of(word) {
-        Some(channel) => Some(Component::Channel(channel)),
-        None => None,
-    }
-}
-
-fn call_of(word: &[u8]) -> Option<Call>
-    ensures { result ≡ call_of word.now }
-{
-    match number_call_of(word) {
-        Some(call) => Some(call),
-        None => other_call_of(word),
-    }
-}
-
-fn is_colour_word(word: &[u8]) -> bool
-    ensures { result ≡ is_colour_word word.now }
-{
-    if word == b"color".as_slice() {
-        true
-    } else if word == b"colour".as_slice() {
-        true
-    } else {
-        false
-    }
+    None
 }
 
 /// What this word begins.
@@ -339,20 +214,69 @@ fn is_colour_word(word: &[u8]) -> bool
 pub fn word_of(word: &[u8]) -> Option<Word>
     ensures { result ≡ word_of word.now }
 {
-    if is_colour_word(word) {
-        return Some(Word::Colour);
+    meaning_in(&WORDS, word)
+}
+
+fn channel_in(word: Option<Word>) -> Option<Channel>
+    ensures { result ≡ channel_in word }
+{
+    match word {
+        Some(Word::Channel(channel)) => Some(channel),
+        Some(Word::Constant(_)) => None,
+        Some(Word::Call(_)) => None,
+        Some(Word::Form(_)) => None,
+        Some(Word::Colour) => None,
+        None => None,
     }
-    if let Some(constant) = constant_of(word) {
-        return Some(Word::Constant(constant));
+}
+
+fn component_in(word: Option<Word>) -> Option<Component>
+    ensures { result ≡ component_in word }
+{
+    match word {
+        Some(Word::Constant(Constant::X)) => Some(Component::Axis(Axis::X)),
+        Some(Word::Constant(Constant::Y)) => Some(Component::Axis(Axis::Y)),
+        Some(Word::Constant(Constant::Z)) => Some(Component::Axis(Axis::Z)),
+        Some(Word::Channel(channel)) => Some(Component::Channel(channel)),
+        _ => None,
     }
-    if let Some(form) = form_of(word) {
-        return Some(Word::Form(form));
-    }
-    if let Some(call) = call_of(word) {
-        return Some(Word::Call(call));
-    }
-    match channel_of(word) {
-        Some(channel) => Some(Word::Channel(channel)),
+}
+
+/// The number of a colour that this word names.
+pub fn channel_of(word: &[u8]) -> Option<Channel>
+    ensures { result ≡ channel_of word.now }
+{
+    channel_in(word_of(word))
+}
+
+/// What this word names behind a dot.
+pub fn component_of(word: &[u8]) -> Option<Component>
+    ensures { result ≡ component_of word.now }
+{
+    component_in(word_of(word))
+}
+
+/// What kind of word of expressions a word is.
+#[derive(Clone, Copy, Debug, PartialEq, Eq)]
+pub enum WordClass {
+    /// It stands for a value, as `pi`.
+    Value,
+    /// It calls a function, as `sqrt`.
+    Call,
+    /// It begins a colour, as `color`, `rgb` or `red`.
+    Colour,
+}
+
+/// The class of a word of expressions; none for each other word.
+pub fn word_class(word: &[u8]) -> Option<WordClass>
+    ensures { result ≡ class_of word.now }
+{
+    match word_of(word) {
+        Some(Word::Constant(_)) => Some(WordClass::Value),
+        Some(Word::Call(_)) => Some(WordClass::Call),
+        Some(Word::Colour) => Some(WordClass::Colour),
+        Some(Word::Form(_)) => Some(WordClass::Colour),
+        Some(Word::Channel(_)) => Some(WordClass::Colour),
         None => None,
     }
 }
