@@ -6,10 +6,11 @@ use Rattle.std.proofs.Math.Pow.{pow_mono}
 use Rattle.std.proofs.lemmas.Bool.{cases_lt}
 use Rattle.std.proofs.lemmas.Bool.Decides.{nat_tests}
 use Rattle.std.proofs.lemmas.Nat.{leading_length, pow-add, pow_pos}
-use Rattle.fix_math.specs.Directions.{component, shortened, are_raw, excess_of, widest_of}
+use Rattle.fix_math.specs.Directions.{are_raw, excess_of, widest_of}
 use Rattle.fix_math.specs.Floor.{rnd_at_least, rnd_within}
 use Rattle.fix_math.specs.Least.{least-is}
-use Rattle.fix_math.specs.Numbers.{is_raw}
+use Rattle.fix_math.specs.Matrices.{component}
+use Rattle.fix_math.specs.Numbers.{is_raw, shortened}
 
 -- g has m digits: those over 47
 over_by : (g m r : ℕ) → g < 2 ^ m → 2 ^ m ≤ 2 * g + 1 → r ≡ m - 47 → g < 2 ^ 126 → (g < 2 ^ (47 + r)) × (0 < r → 2 ^ (46 + r) ≤ g) × (r ≤ 79)

@@ -1,10 +1,11 @@
 -- Division of whole numbers that rounds down, and the rounding of numbers, which stands on it.
-use Rattle.std.specs.Prelude.{◌≡◌, ℕ, ℤ, pos, negsuc, ◌+ℤ◌, ◌*ℤ◌, neg_ℤ, ◌≤ℤ◌, ◌<ℤ◌, ◌↔◌, ◌+◌, ◌*◌, ◌≤◌, ◌<◌, unsigned_abs}
+use Rattle.std.specs.Prelude.{◌≡◌, ℕ, ℤ, pos, negsuc, ◌+ℤ◌, ◌*ℤ◌, neg_ℤ, ◌≤ℤ◌, ◌<ℤ◌, ◌↔◌, ◌+◌, ◌*◌, ◌^◌, ◌≤◌, ◌<◌, unsigned_abs}
 use Rattle.std.specs.Int.{int_div_euclid}
 use Rattle.std.proofs.Common.{arith}
-use Rattle.std.proofs.Math.Nat.{mul-le-mul_right}
+use Rattle.std.proofs.Math.Nat.{mul-le-mul_left, mul-le-mul_right}
 use Rattle.std.proofs.lemmas.Int.{ints, by_lt_z}
-use Rattle.fix_math.specs.Numbers.{rnd}
+use Rattle.std.proofs.lemmas.Nat.{pow_pos}
+use Rattle.fix_math.specs.Numbers.{rnd, shortened}
 use Rattle.fix_math.specs.Order.{mul-le_right}
 use Rattle.fix_math.specs.Ring.{mul-add_left, mul-add_right, mul-neg_left}
 use borrow.Author.Differences.{up, down, le_out, same_in}
@@ -110,3 +111,8 @@ rnd_at_least (negsuc a) k n h le =
 -- a number that isn't negative has no negative quotient
 pub rnd_not_negative : (a b : ℤ) → pos 0 <ℤ b → pos 0 ≤ℤ a → pos 0 ≤ℤ rnd a b
 rnd_not_negative a b h le = floor_above (a +ℤ a +ℤ b) (b +ℤ b) (pos 0) (omega (arith, ints)) (omega (arith, ints))
+
+-- a rounded number is no larger than the number was
+pub shortened_within : (z : ℤ) (bits most : ℕ) → unsigned_abs z ≤ most → unsigned_abs (shortened z bits) ≤ most
+shortened_within z bits most le =
+    rnd_within z (2 ^ bits) most (pow_pos bits) (omega (arith, mul-le-mul_left most (pow_pos bits)))

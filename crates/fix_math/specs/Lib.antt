@@ -1,7 +1,10 @@
 pub mod Angles
+pub mod DirectionLaws
 pub mod Directions
 pub mod Floor
 pub mod Least
+pub mod Matrices
+pub mod MatrixLaws
 pub mod NearRoots
 pub mod Numbers
 pub mod Order
@@ -10,3 +13,5 @@ pub mod Powers
 pub mod Ring
 pub mod RootLaws
 pub mod Roots
+pub mod Rotations
+pub mod Vectors

@@ -6,7 +6,11 @@ use Rattle.std.specs.Int.{int_div_euclid, int_min}
 abbrev pub rnd : ℤ → ℤ → ℤ
 rnd a b = int_div_euclid (a +ℤ a +ℤ b) (b +ℤ b)
 
--- the same for a divisor of either sign: a negative divisor and the dividend are negated first
+-- a number without its last bits, rounded
+abbrev pub shortened : ℤ → ℕ → ℤ
+shortened a bits = rnd a (pos (2 ^ bits))
+
+-- the rounded quotient by a divisor of either sign: a negative divisor and the dividend are negated first
 abbrev pub quotient : ℤ → ℤ → ℤ
 quotient a b = if int_lt b (pos 0) then rnd (neg_ℤ a) (neg_ℤ b) else rnd a b
 

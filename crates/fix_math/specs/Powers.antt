@@ -9,17 +9,17 @@ abbrev pub power_from : ℤ → ℕ → Result ℤ NumFault → Result ℤ NumFa
 power_from x n half =
     followed_by half (λ h. followed_by (multiplied h h) (λ square. if nat_eq (n % 2) 0 then Ok square else multiplied square x))
 
--- the power whose exponent has at most so many digits
+-- the power whose exponent is at most so large
 unfoldable pub power_by : ℕ → ℤ → ℕ → Result ℤ NumFault
 power_by zero x n = Ok (pos 65536)
-power_by (suc digits) x zero = Ok (pos 65536)
-power_by (suc digits) x (suc n) = power_from x (suc n) (power_by digits x (suc n / 2))
+power_by (suc most) x zero = Ok (pos 65536)
+power_by (suc most) x (suc n) = power_from x (suc n) (power_by most x (suc n / 2))
 
 -- the power of x to n
 unfoldable pub power_of : ℤ → ℕ → Result ℤ NumFault
 power_of x n = power_by n x n
 
--- further digits are 0
+-- any bound of the exponent will do
 power_by-same : (d e : ℕ) (x : ℤ) (n : ℕ) → n ≤ d → n ≤ e → power_by d x n ≡ power_by e x n
 unfolding power_by
 power_by-same zero zero x n h k = refl

@@ -1,25 +1,24 @@
 // Vectors of length 1 unit.
 ghost use Rattle.std.specs.Prelude.{◌≡◌, ◌+◌, ◌*◌, ◌<◌, ◌≤◌, ◌^◌, pos, ◌*ℤ◌, unsigned_abs};
 ghost use Rattle.fix_math.specs.Directions.{
-  length_of,
+  long_length_of,
   unit_of,
   greatest_of,
-  component,
   widest_of,
-  shortened,
   are_raw,
   excess_of,
   unit_wide_of,
 };
-ghost use Rattle.fix_math.specs.Numbers.{rnd, is_raw};
+ghost use Rattle.fix_math.specs.Matrices.{component};
+ghost use Rattle.fix_math.specs.Numbers.{rnd, shortened, is_raw};
 
 use crate::arithmetic::{rounded, rounded_shift};
 use crate::fix::{Fix, V3};
 use crate::roots::isqrt;
 
 // A vector's length with 16 fraction bits more than a raw number has: 0 for the zero vector alone.
-fn length(v: &V3) -> u64
-    ensures value { result ≡ length_of v.now }
+fn long_length(v: &V3) -> u64
+    ensures value { result ≡ long_length_of v.now }
     ensures x_within { unsigned_abs v.now.x * 2 ^ 16 ≤ result }
     ensures y_within { unsigned_abs v.now.y * 2 ^ 16 ≤ result }
     ensures z_within { unsigned_abs v.now.z * 2 ^ 16 ≤ result }
@@ -55,7 +54,7 @@ pub fn unit(v: V3) -> V3
     ensures z_small { unsigned_abs result.z ≤ 65536 }
     ensures long { 32768 ≤ greatest_of result }
 {
-    let length = length(&v);
+    let length = long_length(&v);
     if length == 0 {
         return V3 {
             x: Fix(0),

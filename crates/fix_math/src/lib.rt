@@ -6,8 +6,11 @@ mod arithmetic;
 mod directions;
 mod fix;
 mod powers;
+mod root_guess;
 mod roots;
+mod rotations;
 mod text;
+mod vectors;
 
 pub use angles::sincos;
 pub use arithmetic::{add, channel_byte, div, mul, rounded, rounded_quotient, rounded_shift, sub};
@@ -15,7 +18,11 @@ pub use directions::{unit, unit_wide};
 pub use fix::{Fix, NumFault, V3};
 pub use powers::{power, power_unit};
 pub use roots::isqrt;
+pub use rotations::{rotation_x, rotation_y, rotation_z};
 pub use text::Str;
+pub use vectors::{
+    Rows, cross, dot, length, raws, rounded_cross, rounded_dot, rounded_image, row_cross, row_dot,
+};
 
 #[cfg(test)]
 mod tests;

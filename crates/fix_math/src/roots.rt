@@ -1,10 +1,37 @@
 // The root of a natural.
-ghost use Rattle.std.specs.Prelude.{◌≡◌, ◌+◌, ◌*◌, ◌/◌, ◌<◌, ◌≤◌, ◌^◌};
+ghost use Rattle.std.specs.Prelude.{◌≡◌, ◌+◌, ◌*◌, ◌/◌, ◌<◌, ◌≤◌, ◌^◌, IsTrue};
 ghost use Rattle.fix_math.specs.NearRoots.{IsNearRoot};
 ghost use Rattle.fix_math.specs.Roots.{root};
 
-/// The floor of the square root, by four steps of Newton's: each gives twice as many digits.
+use crate::root_guess::root_guess;
+
+/// The floor of the square root.
+#[inline]
 pub fn isqrt(n: u128) -> u64
+    ensures value { result ≡ root n }
+    ensures least { result * result ≤ n }
+    ensures most { n < (result + 1) * (result + 1) }
+{
+    let guess = root_guess(n);
+    if is_root(n, guess) {
+        guess
+    } else {
+        root_by_steps(n)
+    }
+}
+
+#[inline]
+fn is_root(n: u128, root: u64) -> bool
+    ensures least { IsTrue result → root * root ≤ n }
+    ensures most { IsTrue result → n < (root + 1) * (root + 1) }
+{
+    let square = root as u128 * root as u128;
+    square <= n && n - square <= root as u128 + root as u128
+}
+
+/// The same, by four steps of Newton's: each gives twice as many digits.
+#[inline(never)]
+fn root_by_steps(n: u128) -> u64
     ensures value { result ≡ root n }
     ensures least { result * result ≤ n }
     ensures most { n < (result + 1) * (result + 1) }

@@ -1,8 +1,7 @@
 -- Calls of vectors. (Reference manual, vector functions)
 use Rattle.std.specs.Prelude.{ℤ, pos, ◌+ℤ◌, ◌-ℤ◌, ◌*ℤ◌, ◌∷◌, [], List, unsigned_abs, Result, Ok, Err}
 use Rattle.fix_math.specs.Angles.{sine_of, cosine_of}
-use Rattle.fix_math.specs.Directions.{shortened}
-use Rattle.fix_math.specs.Numbers.{rnd}
+use Rattle.fix_math.specs.Numbers.{rnd, shortened}
 use Rattle.fix_math.specs.Outcomes.{in_range}
 use Rattle.fix_math.specs.Roots.{root}
 use Rattle.fix_math.specs.declared.fix.NumFault.{NumFault}

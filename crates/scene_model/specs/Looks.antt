@@ -2,6 +2,7 @@
 use Rattle.std.specs.Prelude.{ℤ, pos, ◌≤ℤ◌, ◌<ℤ◌, ◌≤◌, ◌^◌, List, unsigned_abs, length, IfSome}
 use Rattle.std.specs.List.{All, AllPairs}
 use Rattle.fix_math.specs.declared.fix.V3.{V3}
+use Rattle.fix_math.specs.Matrices.{IsVectorWithin}
 use Rattle.xform.specs.Transforms.{IsPlaced}
 use Rattle.scene_model.specs.declared.camera.Camera.{Camera}
 use Rattle.scene_model.specs.declared.light.Fade.{Fade}
@@ -12,7 +13,7 @@ use Rattle.scene_model.specs.declared.texture.Finish.{Finish}
 use Rattle.scene_model.specs.declared.texture.Pattern.{Pattern}
 use Rattle.scene_model.specs.declared.texture.Pattern.TheVariants.{Plain, Checker, Brick, Hexagon, Gradient}
 use Rattle.scene_model.specs.declared.texture.Texture.{Texture}
-use Rattle.scene_model.specs.Amounts.{IsAmount, AreAmounts, VectorIsWithin, IsDirection, IsRgb, IsRgbft}
+use Rattle.scene_model.specs.Amounts.{IsAmount, AreAmounts, IsDirection, IsRgb, IsRgbft}
 
 -- a brick has a size above 0 along each axis
 pub record IsBrickSize (v : V3) : Type 0 where
@@ -71,13 +72,13 @@ pub record IsFade (fade : Fade) : Type 0 where
 
 -- a lamp stands at most 1,048,576 units from the origin along each axis
 pub record IsLight (light : Light) : Type 0 where
-  pub place : VectorIsWithin (2 ^ 36) light.at
+  pub place : IsVectorWithin (2 ^ 36) light.at
   pub colour : IsRgb light.colour
   pub spot : IfSome light.spot IsSpotlight
   pub fade : IfSome light.fade IsFade
 
 pub record IsCamera (camera : Camera) : Type 0 where
-  pub location : VectorIsWithin (2 ^ 36) camera.location
-  pub direction : VectorIsWithin (2 ^ 36) camera.direction
-  pub right : VectorIsWithin (2 ^ 36) camera.right
-  pub up : VectorIsWithin (2 ^ 36) camera.up
+  pub location : IsVectorWithin (2 ^ 36) camera.location
+  pub direction : IsVectorWithin (2 ^ 36) camera.direction
+  pub right : IsVectorWithin (2 ^ 36) camera.right
+  pub up : IsVectorWithin (2 ^ 36) camera.up

@@ -3,7 +3,7 @@ use Rattle.std.specs.Prelude.{◌≡◌, ℕ, ℤ, pos, ◌≤ℤ◌, ◌≤◌,
 use Rattle.std.specs.List.{All}
 use Rattle.fix_math.specs.declared.fix.V3.{V3}
 use Rattle.fix_math.specs.Directions.{unit_of, greatest_of}
-use Rattle.xform.specs.Matrices.{row_of, row_at, along}
+use Rattle.fix_math.specs.Matrices.{row_of, row_at, along}
 use Rattle.xform.specs.Transforms.{identity, IsPlaced}
 use Rattle.xform.specs.Placing.{spot_of, axis_frame_of, IsSpot}
 use Rattle.scene_model.specs.declared.shape.Leaf.{Leaf}

@@ -2,10 +2,11 @@
 use Rattle.std.specs.Prelude.{◌≡◌, ◌≤◌, ◌<◌, ◌^◌, length, IsTrue}
 use Rattle.std.specs.List.{All}
 use Rattle.fix_math.specs.declared.fix.V3.{V3}
+use Rattle.fix_math.specs.Matrices.{IsVectorWithin}
 use Rattle.scene_model.specs.declared.scene.Scene.{Scene}
 use Rattle.scene_model.specs.declared.scene.Object.{Object}
 use Rattle.scene_model.specs.declared.scene.Sheet.{Sheet}
-use Rattle.scene_model.specs.Amounts.{IsAmount, VectorIsWithin, IsDirection, IsRgb, IsIor}
+use Rattle.scene_model.specs.Amounts.{IsAmount, IsDirection, IsRgb, IsIor}
 use Rattle.scene_model.specs.Solids.{IsLeaf}
 use Rattle.scene_model.specs.Looks.{IsTexture, IsLight, IsCamera}
 use Rattle.scene_model.specs.Places.{places_of, told_of, depth_of, is_filled}
@@ -23,9 +24,9 @@ pub record AreNormals (a b c : V3) : Type 0 where
 
 -- a triangle's corners are in the world
 pub record IsSheet (sheet : Sheet) : Type 0 where
-  pub a : VectorIsWithin (2 ^ 28) sheet.a
-  pub b : VectorIsWithin (2 ^ 28) sheet.b
-  pub c : VectorIsWithin (2 ^ 28) sheet.c
+  pub a : IsVectorWithin (2 ^ 28) sheet.a
+  pub b : IsVectorWithin (2 ^ 28) sheet.b
+  pub c : IsVectorWithin (2 ^ 28) sheet.c
   pub normals : IsTrue sheet.smooth → AreNormals sheet.na sheet.nb sheet.nc
   pub ior : IsIor sheet.ior
 

@@ -4,7 +4,8 @@ use Rattle.std.specs.Ordering.{int_eq}
 use Rattle.std.proofs.Common.{ap, sym, ◌∙◌, arith}
 use Rattle.xform.specs.declared.transform.XformFault.{XformFault}
 use Rattle.xform.specs.declared.transform.XformFault.TheVariants.{Singular}
-use Rattle.xform.specs.Matrices.{entry, matrix, sum3, adjugate_at, determinant}
+use Rattle.fix_math.specs.Matrices.{entry, matrix, sum3}
+use Rattle.xform.specs.Products.{adjugate_at, determinant}
 use Rattle.xform.specs.Transforms.{inverse_entry, inverse_of, small_inverse, inverted}
 
 isnt_zero : (z : ℤ) → z ≢ pos 0 → int_eq z (pos 0) ≡ false

@@ -1,6 +1,4 @@
 mod InverseLemmas
-mod SumLemmas
 mod ComposeLemmas
 mod DigitLemmas
-mod WithinLemmas
 mod SpotLemmas

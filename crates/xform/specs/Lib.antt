@@ -1,3 +1,5 @@
-pub mod Matrices
 pub mod Placing
+pub mod ProductLaws
+pub mod Products
+pub mod SpotLaws
 pub mod Transforms

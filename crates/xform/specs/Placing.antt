@@ -1,13 +1,16 @@
 -- Placing: a transform, the axes of an object and its middle in one, with bits enough for the object's extent.
-use Rattle.std.specs.Prelude.{◌≡◌, ℕ, ℤ, pos, ◌+ℤ◌, ◌-ℤ◌, ◌*ℤ◌, ◌+◌, ◌-◌, ◌^◌, ◌≤◌, ◌<◌, List, [], ◌∷◌, Result, Ok, Err, if◌then◌else◌, min, nat_lt, nat_le, unsigned_abs}
+use Rattle.std.specs.Prelude.{◌≡◌, ℕ, ℤ, pos, ◌+ℤ◌, ◌-ℤ◌, ◌+◌, ◌-◌, ◌^◌, ◌≤◌, ◌<◌, List, [], ◌∷◌, Result, Ok, Err, if◌then◌else◌, min, nat_lt, nat_le, unsigned_abs}
 use Rattle.fix_math.specs.declared.fix.V3.{V3}
-use Rattle.fix_math.specs.Directions.{shortened, unit_of}
+use Rattle.fix_math.specs.Directions.{unit_of}
 use Rattle.fix_math.specs.Least.{least_below}
+use Rattle.fix_math.specs.Matrices.{entry, component, along, vector, row_of, matrix, is_vector_within, IsMatrixWithin, IsVectorWithin}
+use Rattle.fix_math.specs.Numbers.{shortened}
+use Rattle.fix_math.specs.Vectors.{dot, cross_of}
 use Rattle.xform.specs.declared.transform.Spot.{Spot}
 use Rattle.xform.specs.declared.transform.Xform.{Xform}
 use Rattle.xform.specs.declared.transform.XformFault.{XformFault}
 use Rattle.xform.specs.declared.transform.XformFault.TheVariants.{AnchorRange}
-use Rattle.xform.specs.Matrices.{at, entry, along, vector, row_of, matrix, sum3, times, times_turned, is_within, IsWithin, RowIsWithin}
+use Rattle.xform.specs.Products.{times, times_turned}
 use Rattle.xform.specs.Transforms.{identity, point_of}
 
 -- the number of binary digits of w
@@ -32,7 +35,7 @@ residual_of e m n = matrix (λ i j. entry (identity (pos (2 ^ (32 + e)))) i j -�
 
 -- an entry of a row of the residual, by the columns of n
 abbrev pub residual_entry : List ℤ → List ℤ → List (List ℤ) → ℕ → ℤ
-residual_entry whole a columns j = at whole j -ℤ sum3 (λ k. at a k *ℤ entry columns j k)
+residual_entry whole a columns j = component whole j -ℤ dot (component a) (entry columns j)
 
 abbrev pub spot_at : Xform → List (List ℤ) → V3 → ℕ → Spot
 spot_at x frame anchor e = record {
@@ -45,7 +48,7 @@ spot_at x frame anchor e = record {
 
 -- a point of the world is at most 4096 units from its middle along each axis
 abbrev pub in_world : V3 → Result V3 XformFault
-in_world p = if is_within (2 ^ 28) p then Ok p else Err AnchorRange
+in_world p = if is_vector_within (2 ^ 28) p then Ok p else Err AnchorRange
 
 abbrev pub with_anchor : Result V3 XformFault → (V3 → Spot) → Result Spot XformFault
 with_anchor (Ok anchor) spot = Ok (spot anchor)
@@ -60,19 +63,12 @@ spot_of x frame c extent =
 pub record IsSpot (s : Spot) : Type 0 where
   pub least : 14 ≤ s.e
   pub most : s.e ≤ 32
-  pub anchor : RowIsWithin (2 ^ 28) (row_of (along s.anchor))
-  pub n : IsWithin (2 ^ 46) s.n
-  pub m : IsWithin (2 ^ 46) s.m
+  pub anchor : IsVectorWithin (2 ^ 28) s.anchor
+  pub n : IsMatrixWithin (2 ^ 46) s.n
+  pub m : IsMatrixWithin (2 ^ 46) s.m
   pub equation : (i j : ℕ) → i < 3 → j < 3 → times s.m s.n i j +ℤ entry s.residual i j ≡ entry (identity (pos (2 ^ (32 + s.e)))) i j
 
 -- the frame of an axis: its third row is the axis, and the first two stand across it
-
-abbrev pub cross : V3 → V3 → V3
-cross a b = record {
-  x = a.y *ℤ b.z -ℤ a.z *ℤ b.y;
-  y = a.z *ℤ b.x -ℤ a.x *ℤ b.z;
-  z = a.x *ℤ b.y -ℤ a.y *ℤ b.x;
-}
 
 -- 1 unit along the coordinate axis on which a has its least component in size, the first of equal ones
 abbrev pub least_axis : V3 → V3
@@ -87,5 +83,5 @@ frame_of first second third = row_of (along first) ∷ row_of (along second) ∷
 unfoldable pub axis_frame_of : V3 → List (List ℤ)
 axis_frame_of v =
     let a = unit_of v in
-    let first = unit_of (cross (least_axis a) a) in
-    frame_of first (unit_of (cross a first)) a
+    let first = unit_of (cross_of (least_axis a) a) in
+    frame_of first (unit_of (cross_of a first)) a

@@ -1,17 +1,17 @@
 -- Transforms (POV-Ray manual, 'Transformations'). m takes a point of the object to one of the world, relative to the anchor; n takes it back.
 -- Entries of m and n have 32 fraction bits, so 1 is 2 ^ 32.
-use Rattle.std.specs.Prelude.{ℕ, ℤ, pos, neg_ℤ, ◌+ℤ◌, ◌*ℤ◌, ◌+◌, ◌*◌, ◌^◌, List, [], ◌∷◌, Bool, ◌&&◌, ◌||◌, Result, Ok, Err, if◌then◌else◌, slice_index_or}
+use Rattle.std.specs.Prelude.{ℕ, ℤ, pos, ◌+ℤ◌, ◌*ℤ◌, ◌+◌, ◌*◌, ◌^◌, List, [], ◌∷◌, Bool, ◌&&◌, ◌||◌, Result, Ok, Err, if◌then◌else◌}
 use Rattle.std.specs.Ordering.{int_eq}
 use Rattle.fix_math.specs.declared.fix.V3.{V3}
-use Rattle.fix_math.specs.Angles.{sine_of, cosine_of}
-use Rattle.fix_math.specs.Directions.{shortened}
-use Rattle.fix_math.specs.Numbers.{quotient}
+use Rattle.fix_math.specs.Matrices.{component, entry, along, vector, matrix, image, is_matrix_within, is_vector_within, IsMatrixWithin, IsVectorWithin}
+use Rattle.fix_math.specs.Numbers.{shortened, quotient}
+use Rattle.fix_math.specs.Rotations.{about_x, about_y, about_z}
 use Rattle.xform.specs.declared.transform.Xform.{Xform}
 use Rattle.xform.specs.declared.transform.Step.{Step}
 use Rattle.xform.specs.declared.transform.Step.TheVariants.{Translate, Scale, Rotate, Matrix}
 use Rattle.xform.specs.declared.transform.XformFault.{XformFault}
 use Rattle.xform.specs.declared.transform.XformFault.TheVariants.{Singular, EntryRange, AnchorRange}
-use Rattle.xform.specs.Matrices.{entry, along, vector, row_of, matrix, times, times_turned, image, are_within, is_within, IsWithin, RowIsWithin, adjugate_at, determinant}
+use Rattle.xform.specs.Products.{times, times_turned, adjugate_at, determinant}
 
 abbrev pub identity : ℤ → List (List ℤ)
 identity one = (one ∷ pos 0 ∷ pos 0 ∷ []) ∷ (pos 0 ∷ one ∷ pos 0 ∷ []) ∷ (pos 0 ∷ pos 0 ∷ one ∷ []) ∷ []
@@ -20,9 +20,13 @@ identity one = (one ∷ pos 0 ∷ pos 0 ∷ []) ∷ (pos 0 ∷ one ∷ pos 0 ∷
 abbrev pub start_of : Xform
 start_of = record { m = identity (pos (2 ^ 32)); n = identity (pos (2 ^ 32)); anchor = record { x = pos 0; y = pos 0; z = pos 0 } }
 
--- the image of a point: each component's sum is exact before its one rounding
+-- the image of a direction: each component's sum is exact before its one rounding
+abbrev pub direction_of : Xform → V3 → ℕ → ℤ
+direction_of x v i = shortened (image x.m v i) 32
+
+-- the image of a point
 abbrev pub point_of : Xform → V3 → ℕ → ℤ
-point_of x c i = along x.anchor i +ℤ shortened (image x.m c i) 32
+point_of x c i = along x.anchor i +ℤ direction_of x c i
 
 abbrev pub translated : Xform → V3 → Xform
 translated x t = record { m = x.m; n = x.n; anchor = vector (λ i. along x.anchor i +ℤ along t i) }
@@ -45,28 +49,12 @@ turned x r = record {
   anchor = vector (λ i. shortened (image r x.anchor i) 32);
 }
 
--- the rotations about the axes by an angle in degrees, in the left-handed system of the manual
-abbrev pub about_x : ℤ → List (List ℤ)
-about_x deg =
-    let s = sine_of deg in let c = cosine_of deg in
-    (pos (2 ^ 32) ∷ pos 0 ∷ pos 0 ∷ []) ∷ (pos 0 ∷ c ∷ neg_ℤ s ∷ []) ∷ (pos 0 ∷ s ∷ c ∷ []) ∷ []
-
-abbrev pub about_y : ℤ → List (List ℤ)
-about_y deg =
-    let s = sine_of deg in let c = cosine_of deg in
-    (c ∷ pos 0 ∷ s ∷ []) ∷ (pos 0 ∷ pos (2 ^ 32) ∷ pos 0 ∷ []) ∷ (neg_ℤ s ∷ pos 0 ∷ c ∷ []) ∷ []
-
-abbrev pub about_z : ℤ → List (List ℤ)
-about_z deg =
-    let s = sine_of deg in let c = cosine_of deg in
-    (c ∷ neg_ℤ s ∷ pos 0 ∷ []) ∷ (s ∷ c ∷ pos 0 ∷ []) ∷ (pos 0 ∷ pos 0 ∷ pos (2 ^ 32) ∷ []) ∷ []
-
 -- the twelve numbers of a matrix stand column by column, and the last three are a translation
 abbrev pub linear_part : List ℤ → List (List ℤ)
-linear_part v = matrix (λ i j. slice_index_or v (3 * j + i) (pos 0))
+linear_part v = matrix (λ i j. component v (3 * j + i))
 
 abbrev pub translation_part : List ℤ → V3
-translation_part v = vector (λ i. slice_index_or v (9 + i) (pos 0))
+translation_part v = vector (λ i. component v (9 + i))
 
 -- the inverse of a matrix with 16 fraction bits, with 32
 abbrev pub inverse_entry : ℤ → ℤ → ℤ
@@ -84,11 +72,11 @@ multiplied x g inverse t = record {
 
 -- an anchor lies in the world: at most 4096 units from the middle along each axis
 abbrev pub anchored : Xform → Result Xform XformFault
-anchored x = if is_within (2 ^ 28) x.anchor then Ok x else Err AnchorRange
+anchored x = if is_vector_within (2 ^ 28) x.anchor then Ok x else Err AnchorRange
 
 -- and before that, a transform's entries are at most 2 ^ 44 in size
 abbrev pub have_range : List (List ℤ) → List (List ℤ) → Bool
-have_range m n = are_within (2 ^ 44) m && are_within (2 ^ 44) n
+have_range m n = is_matrix_within (2 ^ 44) m && is_matrix_within (2 ^ 44) n
 
 abbrev pub checked : Xform → Result Xform XformFault
 checked x = if have_range x.m x.n then anchored x else Err EntryRange
@@ -110,7 +98,7 @@ rotated x v =
     (λ x. after (checked (turned x (about_y v.y))) (λ x. checked (turned x (about_z v.z))))
 
 abbrev pub small_inverse : List (List ℤ) → Result (List (List ℤ)) XformFault
-small_inverse inverse = if are_within (2 ^ 60) inverse then Ok (matrix (entry inverse)) else Err EntryRange
+small_inverse inverse = if is_matrix_within (2 ^ 60) inverse then Ok (matrix (entry inverse)) else Err EntryRange
 
 -- the inverse of a matrix, where there is one that is small enough
 abbrev pub inverted : List (List ℤ) → Result (List (List ℤ)) XformFault
@@ -121,7 +109,7 @@ by_linear x g t = after (inverted g) (λ inverse. checked (multiplied x g invers
 
 abbrev pub by_matrix : Xform → List ℤ → Result Xform XformFault
 by_matrix x v =
-    if are_within (2 ^ 38) (linear_part v) then by_linear x (linear_part v) (translation_part v) else Err EntryRange
+    if is_matrix_within (2 ^ 38) (linear_part v) then by_linear x (linear_part v) (translation_part v) else Err EntryRange
 
 -- a transform and a further step
 unfoldable pub then_of : Xform → Step → Result Xform XformFault
@@ -137,6 +125,6 @@ composed_from x (step ∷ steps) = after (then_of x step) (λ y. composed_from y
 
 -- what `start` and each answer of `then` have
 pub record IsPlaced (x : Xform) : Type 0 where
-  pub m : IsWithin (2 ^ 44) x.m
-  pub n : IsWithin (2 ^ 44) x.n
-  pub anchor : RowIsWithin (2 ^ 28) (row_of (along x.anchor))
+  pub m : IsMatrixWithin (2 ^ 44) x.m
+  pub n : IsMatrixWithin (2 ^ 44) x.n
+  pub anchor : IsVectorWithin (2 ^ 28) x.anchor

@@ -1,23 +1,20 @@
 // The step of a matrix: its linear part is inverted.
-ghost use Rattle.std.specs.Prelude.{◌≡◌, ◌≢◌, ℕ, ◌≤◌, ◌<◌, ◌+◌, ◌^◌, pos, ◌+ℤ◌, ◌-ℤ◌, ◌*ℤ◌, unsigned_abs, IfOk};
-ghost use Rattle.fix_math.specs.Directions.{shortened};
-ghost use Rattle.xform.specs.Matrices.{
-  at,
+ghost use Rattle.std.specs.Prelude.{◌≡◌, ◌≢◌, ℕ, ◌≤◌, ◌<◌, ◌^◌, pos, ◌+ℤ◌, ◌*ℤ◌, unsigned_abs, IfOk};
+ghost use Rattle.fix_math.specs.Matrices.{
+  component,
   along,
-  vector,
   row_of,
   matrix,
   entry,
-  sum3,
   image,
-  cross_at,
-  adjugate_at,
-  IsWithin,
-  RowIsWithin,
+  IsRowWithin,
+  IsMatrixWithin,
 };
+ghost use Rattle.fix_math.specs.Numbers.{shortened};
+ghost use Rattle.fix_math.specs.Vectors.{dot, cross};
+ghost use Rattle.xform.specs.Products.{adjugate_at};
 ghost use Rattle.xform.specs.Transforms.{
   linear_part,
-  translation_part,
   inverse_entry,
   small_inverse,
   inverted,
@@ -28,13 +25,12 @@ ghost use Rattle.xform.specs.Transforms.{
   IsPlaced,
 };
 
+use crate::checked::checked;
 use crate::rows::{
-    Rows, WideRows, are_small, are_small_rows, narrow, plus, product, product_by_small,
-    rounded_sum, sum,
+    WideRows, are_small, are_small_rows, narrow, plus, product, product_by_small, sum,
 };
-use crate::steps::{raws, settled};
 use crate::transform::{Xform, XformFault};
-use fix_math::{Fix, V3, rounded_quotient};
+use fix_math::{Fix, Rows, V3, rounded_image, rounded_quotient, row_cross};
 
 const LINEAR_LIMIT: u64 = 1 << 38;
 
@@ -70,7 +66,7 @@ fn linear_rows(v: &[Fix; 12]) -> Rows
 }
 
 fn multiply_linear(x: &Xform, g: &Rows, by: &V3) -> Result<Xform, XformFault>
-    requires { IsWithin (2 ^ 38) g.now }
+    requires { IsMatrixWithin (2 ^ 38) g.now }
     ensures value { result ≡ by_linear x.now g.now by.now }
     ensures placed { IfOk result IsPlaced }
 {
@@ -81,9 +77,9 @@ fn multiply_linear(x: &Xform, g: &Rows, by: &V3) -> Result<Xform, XformFault>
 }
 
 fn inverted(g: &Rows) -> Result<Rows, XformFault>
-    requires { IsWithin (2 ^ 38) g.now }
+    requires { IsMatrixWithin (2 ^ 38) g.now }
     ensures value { result ≡ inverted g.now }
-    ensures small { IfOk result (λ inverse. IsWithin (2 ^ 60) inverse) }
+    ensures small { IfOk result (λ inverse. IsMatrixWithin (2 ^ 60) inverse) }
 {
     let cofactors = cofactor_rows(g);
     let det = determinant_by(&g[0], &cofactors[0]);
@@ -95,7 +91,7 @@ fn inverted(g: &Rows) -> Result<Rows, XformFault>
 
 fn small_inverse(inverse: &WideRows) -> Result<Rows, XformFault>
     ensures value { result ≡ small_inverse inverse.now }
-    ensures small { IfOk result (λ inverse. IsWithin (2 ^ 60) inverse) }
+    ensures small { IfOk result (λ inverse. IsMatrixWithin (2 ^ 60) inverse) }
 {
     if !are_small(inverse, INVERSE_LIMIT) {
         return Err(XformFault::EntryRange);
@@ -104,13 +100,13 @@ fn small_inverse(inverse: &WideRows) -> Result<Rows, XformFault>
 }
 
 fn multiply_invertible(x: &Xform, g: &Rows, inverse: &Rows, by: &V3) -> Result<Xform, XformFault>
-    requires g_small { IsWithin (2 ^ 60) g.now }
-    requires inverse_small { IsWithin (2 ^ 60) inverse.now }
+    requires g_small { IsMatrixWithin (2 ^ 60) g.now }
+    requires inverse_small { IsMatrixWithin (2 ^ 60) inverse.now }
     ensures value { result ≡ checked (multiplied x.now g.now inverse.now by.now) }
     ensures placed { IfOk result IsPlaced }
 {
     let anchor = moved_anchor(g, &x.anchor, by);
-    settled(
+    checked(
         &product(g, &x.m, 16),
         &product_by_small(&x.n, inverse, 32),
         &anchor,
@@ -118,34 +114,33 @@ fn multiply_invertible(x: &Xform, g: &Rows, inverse: &Rows, by: &V3) -> Result<X
 }
 
 fn moved_anchor(g: &Rows, anchor: &V3, by: &V3) -> [i128; 3]
-    requires { IsWithin (2 ^ 60) g.now }
     ensures { result ≡ row_of (λ i. shortened (image g.now anchor.now i) 16 +ℤ along by.now i) }
 {
-    let anchor = raws(anchor);
+    let [x, y, z] = rounded_image(g, anchor, 16);
     [
-        plus(rounded_sum(&g[0], &anchor, 16), by.x.wide()),
-        plus(rounded_sum(&g[1], &anchor, 16), by.y.wide()),
-        plus(rounded_sum(&g[2], &anchor, 16), by.z.wide()),
+        plus(x, by.x.wide()),
+        plus(y, by.y.wide()),
+        plus(z, by.z.wide()),
     ]
 }
 
 // The adjugate with rows for columns.
 fn cofactor_rows(g: &Rows) -> WideRows
-    requires { IsWithin (2 ^ 38) g.now }
+    requires { IsMatrixWithin (2 ^ 38) g.now }
     ensures value { result ≡ matrix (λ j i. adjugate_at g.now i j) }
-    ensures small { IsWithin (2 ^ 77) result }
+    ensures small { IsMatrixWithin (2 ^ 77) result }
 {
     [
-        cross(&g[1], &g[2]),
-        cross(&g[2], &g[0]),
-        cross(&g[0], &g[1]),
+        small_cross(&g[1], &g[2]),
+        small_cross(&g[2], &g[0]),
+        small_cross(&g[0], &g[1]),
     ]
 }
 
 fn flipped(m: &WideRows) -> WideRows
-    requires { IsWithin (2 ^ 77) m.now }
+    requires { IsMatrixWithin (2 ^ 77) m.now }
     ensures value { result ≡ matrix (λ i j. entry m.now j i) }
-    ensures small { IsWithin (2 ^ 77) result }
+    ensures small { IsMatrixWithin (2 ^ 77) result }
 {
     [
         [m[0][0], m[1][0], m[2][0]],
@@ -154,53 +149,19 @@ fn flipped(m: &WideRows) -> WideRows
     ]
 }
 
-fn cross(u: &[i64; 3], w: &[i64; 3]) -> [i128; 3]
-    requires u_small { RowIsWithin (2 ^ 38) u.now }
-    requires w_small { RowIsWithin (2 ^ 38) w.now }
-    ensures value { result ≡ row_of (cross_at u.now w.now) }
-    ensures small { RowIsWithin (2 ^ 77) result }
+fn small_cross(u: &[i64; 3], w: &[i64; 3]) -> [i128; 3]
+    requires u_small { IsRowWithin (2 ^ 38) u.now }
+    requires w_small { IsRowWithin (2 ^ 38) w.now }
+    ensures value { result ≡ row_of (cross (component u.now) (component w.now)) }
+    ensures small { IsRowWithin (2 ^ 77) result }
 {
-    [
-        minor(u[1], w[2], u[2], w[1]),
-        minor(u[2], w[0], u[0], w[2]),
-        minor(u[0], w[1], u[1], w[0]),
-    ]
-}
-
-// a b - c d
-fn minor(a: i64, b: i64, c: i64, d: i64) -> i128
-    requires a_small { unsigned_abs a ≤ 2 ^ 38 }
-    requires b_small { unsigned_abs b ≤ 2 ^ 38 }
-    requires c_small { unsigned_abs c ≤ 2 ^ 38 }
-    requires d_small { unsigned_abs d ≤ 2 ^ 38 }
-    ensures value { result ≡ a *ℤ b -ℤ c *ℤ d }
-    ensures small { unsigned_abs result ≤ 2 ^ 77 }
-{
-    minus(part(a, b), part(c, d))
-}
-
-fn minus(a: i128, b: i128) -> i128
-    requires a_small { unsigned_abs a ≤ 2 ^ 76 }
-    requires b_small { unsigned_abs b ≤ 2 ^ 76 }
-    ensures value { result ≡ a -ℤ b }
-    ensures small { unsigned_abs result ≤ 2 ^ 77 }
-{
-    a - b
-}
-
-fn part(a: i64, b: i64) -> i128
-    requires a_small { unsigned_abs a ≤ 2 ^ 38 }
-    requires b_small { unsigned_abs b ≤ 2 ^ 38 }
-    ensures value { result ≡ a *ℤ b }
-    ensures small { unsigned_abs result ≤ 2 ^ 76 }
-{
-    a as i128 * b as i128
+    row_cross(u, w)
 }
 
 fn determinant_by(entries: &[i64; 3], minors: &[i128; 3]) -> i128
-    requires entries_small { RowIsWithin (2 ^ 38) entries.now }
-    requires minors_small { RowIsWithin (2 ^ 77) minors.now }
-    ensures value { result ≡ sum3 (λ k. at entries.now k *ℤ at minors.now k) }
+    requires entries_small { IsRowWithin (2 ^ 38) entries.now }
+    requires minors_small { IsRowWithin (2 ^ 77) minors.now }
+    ensures value { result ≡ dot (component entries.now) (component minors.now) }
     ensures small { unsigned_abs result < 2 ^ 125 }
 {
     sum(
@@ -220,7 +181,7 @@ fn by_minor(entry: i64, minor: i128) -> i128
 }
 
 fn inverse_rows(adjugate: &WideRows, det: i128) -> WideRows
-    requires adjugate_small { IsWithin (2 ^ 77) adjugate.now }
+    requires adjugate_small { IsMatrixWithin (2 ^ 77) adjugate.now }
     requires some { det ≢ pos 0 }
     requires det_small { unsigned_abs det < 2 ^ 125 }
     ensures { result ≡ matrix (λ i j. inverse_entry (entry adjugate.now i j) det) }
@@ -233,10 +194,10 @@ fn inverse_rows(adjugate: &WideRows, det: i128) -> WideRows
 }
 
 fn inverse_row(minors: &[i128; 3], det: i128) -> [i128; 3]
-    requires small { RowIsWithin (2 ^ 77) minors.now }
+    requires small { IsRowWithin (2 ^ 77) minors.now }
     requires some { det ≢ pos 0 }
     requires det_small { unsigned_abs det < 2 ^ 125 }
-    ensures { result ≡ row_of (λ j. inverse_entry (at minors.now j) det) }
+    ensures { result ≡ row_of (λ j. inverse_entry (component minors.now j) det) }
 {
     [
         inverse_by(minors[0], det),

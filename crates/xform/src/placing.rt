@@ -1,14 +1,17 @@
 // Placing an object in the world, with bits enough for its extent.
-ghost use Rattle.std.specs.Prelude.{◌≡◌, ℕ, ◌+◌, ◌≤◌, ◌<◌, ◌^◌, pos, ◌+ℤ◌, ◌-ℤ◌, ◌*ℤ◌, ◌≤ℤ◌, unsigned_abs, IfOk};
-ghost use Rattle.xform.specs.Matrices.{
-  at,
+ghost use Rattle.std.specs.Prelude.{◌≡◌, ℕ, ◌+◌, ◌*◌, ◌≤◌, ◌<◌, ◌^◌, pos, ◌-ℤ◌, ◌≤ℤ◌, unsigned_abs, IfOk};
+ghost use Rattle.fix_math.specs.Directions.{unit_of};
+ghost use Rattle.fix_math.specs.Matrices.{
+  component,
   along,
   vector,
+  row_at,
   row_of,
-  sum3,
-  IsWithin,
-  RowIsWithin,
+  IsRowWithin,
+  IsMatrixWithin,
+  IsVectorWithin,
 };
+ghost use Rattle.fix_math.specs.Vectors.{dot, cross_of};
 ghost use Rattle.xform.specs.Placing.{
   exponent_of,
   to_object,
@@ -18,24 +21,21 @@ ghost use Rattle.xform.specs.Placing.{
   in_world,
   spot_at,
   spot_of,
-  cross,
   least_axis,
   axis_frame_of,
   IsSpot,
 };
 ghost use Rattle.xform.specs.Transforms.{identity, IsPlaced};
 
-use crate::rows::{
-    Rows, WideRows, flipped, is_small, narrow, product, product_by_flipped, sum_of_products,
-};
-use crate::steps::{point, raws};
+use crate::rows::{WideRows, flipped, is_small, known_vector, narrow, product, product_by_flipped};
+use crate::steps::point;
 use crate::transform::{Frame, Spot, Xform, XformFault};
-use fix_math::{Fix, V3, unit};
+use fix_math::{Fix, Rows, V3, cross, raws, row_dot, unit};
 
 /// The axes of the world.
 pub fn identity_frame() -> Frame
     ensures value { result ≡ identity (pos 65536) }
-    ensures small { IsWithin 65537 result }
+    ensures small { IsMatrixWithin 65537 result }
 {
     [[65536, 0, 0], [0, 65536, 0], [0, 0, 65536]]
 }
@@ -43,11 +43,13 @@ pub fn identity_frame() -> Frame
 /// The place of an object with this frame, middle and extent. The only fault is AnchorRange.
 pub fn spot(x: &Xform, frame: &Frame, c: V3, extent: i64) -> Result<Spot, XformFault>
     requires placed { IsPlaced x.now }
-    requires frame_small { IsWithin 65537 frame.now }
+    requires frame_small { IsMatrixWithin 65537 frame.now }
     requires extent_low { pos 0 ≤ℤ extent }
     requires extent_high { extent ≤ℤ pos (2 ^ 30) }
     ensures value { result ≡ spot_of x.now frame.now c (unsigned_abs extent) }
     ensures spot { IfOk result IsSpot }
+    ensures e { IfOk result (λ spot. spot.e ≡ exponent_of (unsigned_abs extent)) }
+    ensures room { IfOk result (λ spot. unsigned_abs extent * 2 ^ spot.e < 2 ^ 45) }
 {
     match in_world(&point(x, c)) {
         Ok(anchor) => Ok(spot_with(x, frame, anchor, exponent(extent.unsigned_abs()))),
@@ -56,18 +58,13 @@ pub fn spot(x: &Xform, frame: &Frame, c: V3, extent: i64) -> Result<Spot, XformF
 }
 
 fn in_world(p: &[i128; 3]) -> Result<V3, XformFault>
-    ensures value { result ≡ in_world (vector (at p.now)) }
-    ensures small { IfOk result (λ v. RowIsWithin (2 ^ 28) (row_of (along v))) }
+    ensures value { result ≡ in_world (vector (component p.now)) }
+    ensures small { IfOk result (λ v. IsVectorWithin (2 ^ 28) v) }
 {
     if !is_small(p, 1 << 28) {
         return Err(XformFault::AnchorRange);
     }
-    let (x, y, z) = (
-        Fix::from_known(p[0]),
-        Fix::from_known(p[1]),
-        Fix::from_known(p[2]),
-    );
-    Ok(V3 { x, y, z })
+    Ok(known_vector(p))
 }
 
 // The scaling that the digits of an extent leave room for.
@@ -83,10 +80,10 @@ fn exponent(extent: u64) -> u32
 
 fn spot_with(x: &Xform, frame: &Frame, anchor: V3, e: u32) -> Spot
     requires placed { IsPlaced x.now }
-    requires frame_small { IsWithin 65537 frame.now }
+    requires frame_small { IsMatrixWithin 65537 frame.now }
     requires least { 14 ≤ e }
     requires most { e ≤ 32 }
-    requires anchor_small { RowIsWithin (2 ^ 28) (row_of (along anchor)) }
+    requires anchor_small { IsVectorWithin (2 ^ 28) anchor }
     ensures value { result ≡ spot_at x.now frame.now anchor e }
     ensures spot { IsSpot result }
 {
@@ -104,26 +101,26 @@ fn spot_with(x: &Xform, frame: &Frame, anchor: V3, e: u32) -> Spot
 
 fn to_object(x: &Xform, frame: &Frame, e: u32) -> Rows
     requires placed { IsPlaced x.now }
-    requires frame_small { IsWithin 65537 frame.now }
+    requires frame_small { IsMatrixWithin 65537 frame.now }
     requires least { 14 ≤ e }
     requires most { e ≤ 32 }
     ensures value { result ≡ to_object x.now frame.now e }
-    ensures small { IsWithin (2 ^ 46) result }
+    ensures small { IsMatrixWithin (2 ^ 46) result }
 {
     narrow(&product(frame, &x.n, 48 - e))
 }
 
 fn to_world(x: &Xform, frame: &Frame) -> Rows
     requires placed { IsPlaced x.now }
-    requires frame_small { IsWithin 65537 frame.now }
+    requires frame_small { IsMatrixWithin 65537 frame.now }
     ensures value { result ≡ to_world x.now frame.now }
-    ensures small { IsWithin (2 ^ 46) result }
+    ensures small { IsMatrixWithin (2 ^ 46) result }
 {
     narrow(&product_by_flipped(&x.m, frame, 16))
 }
 
 fn residual_rows(m: &Rows, n: &Rows, e: u32) -> WideRows
-    requires m_small { IsWithin (2 ^ 46) m.now }
+    requires m_small { IsMatrixWithin (2 ^ 46) m.now }
     requires most { e ≤ 32 }
     ensures { result ≡ residual_of e m.now n.now }
 {
@@ -137,8 +134,8 @@ fn residual_rows(m: &Rows, n: &Rows, e: u32) -> WideRows
 }
 
 fn residual_row(whole: &[i128; 3], a: &[i64; 3], columns: &Rows) -> [i128; 3]
-    requires whole_small { RowIsWithin (2 ^ 64) whole.now }
-    requires small { RowIsWithin (2 ^ 46) a.now }
+    requires whole_small { IsRowWithin (2 ^ 64) whole.now }
+    requires small { IsRowWithin (2 ^ 46) a.now }
     ensures { result ≡ row_of (residual_entry whole.now a.now columns.now) }
 {
     [
@@ -150,10 +147,10 @@ fn residual_row(whole: &[i128; 3], a: &[i64; 3], columns: &Rows) -> [i128; 3]
 
 fn less_products(whole: i128, a: &[i64; 3], b: &[i64; 3]) -> i128
     requires whole_small { unsigned_abs whole ≤ 2 ^ 64 }
-    requires small { RowIsWithin (2 ^ 46) a.now }
-    ensures { result ≡ whole -ℤ sum3 (λ k. at a.now k *ℤ at b.now k) }
+    requires small { IsRowWithin (2 ^ 46) a.now }
+    ensures { result ≡ whole -ℤ dot (component a.now) (component b.now) }
 {
-    minus(whole, sum_of_products(a, b))
+    minus(whole, row_dot(a, b))
 }
 
 fn minus(a: i128, b: i128) -> i128
@@ -178,50 +175,28 @@ fn whole(e: u32) -> i128
 #[tactic(auto, unfolding(crate::specs::Placing::axis_frame_of))]
 pub fn axis_frame(v: V3) -> Frame
     ensures value { result ≡ axis_frame_of v }
-    ensures small { IsWithin 65537 result }
+    ensures axis { row_at result 2 ≡ row_of (along (unit_of v)) }
+    ensures small { IsMatrixWithin 65537 result }
 {
     let axis = unit(v);
-    let first = unit(cross(&least_axis(&axis), &axis));
-    let second = unit(cross(&axis, &first));
+    let first = unit(small_cross(&least_axis(&axis), &axis));
+    let second = unit(small_cross(&axis, &first));
     [raws(&first), raws(&second), raws(&axis)]
 }
 
-fn cross(a: &V3, b: &V3) -> V3
-    requires a_small { RowIsWithin 65536 (row_of (along a.now)) }
-    requires b_small { RowIsWithin 65536 (row_of (along b.now)) }
-    ensures { result ≡ cross a.now b.now }
+// The cross product of two directions, exactly.
+fn small_cross(a: &V3, b: &V3) -> V3
+    requires a_small { IsVectorWithin 65536 a.now }
+    requires b_small { IsVectorWithin 65536 b.now }
+    ensures { result ≡ cross_of a.now b.now }
 {
-    V3 {
-        x: minor(a.y, b.z, a.z, b.y),
-        y: minor(a.z, b.x, a.x, b.z),
-        z: minor(a.x, b.y, a.y, b.x),
-    }
-}
-
-// a b - c d
-fn minor(a: Fix, b: Fix, c: Fix, d: Fix) -> Fix
-    requires a_small { unsigned_abs a ≤ 65536 }
-    requires b_small { unsigned_abs b ≤ 65536 }
-    requires c_small { unsigned_abs c ≤ 65536 }
-    requires d_small { unsigned_abs d ≤ 65536 }
-    ensures { result ≡ a *ℤ b -ℤ c *ℤ d }
-{
-    Fix(part(a, b) - part(c, d))
-}
-
-fn part(a: Fix, b: Fix) -> i64
-    requires a_small { unsigned_abs a ≤ 65536 }
-    requires b_small { unsigned_abs b ≤ 65536 }
-    ensures value { result ≡ a *ℤ b }
-    ensures small { unsigned_abs result ≤ 2 ^ 32 }
-{
-    a.raw() * b.raw()
+    known_vector(&cross(a, b))
 }
 
 // 1 unit along the axis on which a is least in size, the first of equal ones.
 fn least_axis(a: &V3) -> V3
     ensures value { result ≡ least_axis a.now }
-    ensures small { RowIsWithin 65536 (row_of (along result)) }
+    ensures small { IsVectorWithin 65536 result }
 {
     let (x, y, z) = (size(a.x), size(a.y), size(a.z));
     if x <= y.min(z) {

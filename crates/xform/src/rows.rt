@@ -1,30 +1,28 @@
 // Arithmetic on matrices of three rows and three columns. One factor of each product is below
 // 2^60, the other any number of 64 bits.
 ghost use Rattle.std.specs.Prelude.{◌≡◌, ℕ, ◌≤◌, ◌<◌, ◌^◌, pos, ◌+ℤ◌, ◌*ℤ◌, unsigned_abs, IsTrue};
-ghost use Rattle.fix_math.specs.Directions.{shortened};
-ghost use Rattle.xform.specs.Matrices.{
-  at,
+ghost use Rattle.fix_math.specs.Matrices.{
+  component,
   entry,
+  vector,
   row_of,
   matrix,
-  sum3,
-  times,
-  times_turned,
-  row_is_within,
-  are_within,
-  RowIsWithin,
-  IsWithin,
+  is_row_within,
+  is_matrix_within,
+  IsRowWithin,
+  IsMatrixWithin,
 };
+ghost use Rattle.fix_math.specs.Numbers.{shortened};
+ghost use Rattle.fix_math.specs.Vectors.{dot};
+ghost use Rattle.xform.specs.Products.{times, times_turned};
 
-use fix_math::rounded_shift;
-
-pub type Rows = [[i64; 3]; 3];
+use fix_math::{Fix, Rows, V3, rounded_shift, row_dot};
 
 pub type WideRows = [[i128; 3]; 3];
 
 // The product of a small matrix and another, each entry rounded once.
 pub fn product(a: &Rows, b: &Rows, bits: u32) -> WideRows
-    requires small { IsWithin (2 ^ 60) a.now }
+    requires small { IsMatrixWithin (2 ^ 60) a.now }
     requires few { bits ≤ 48 }
     ensures { result ≡ matrix (λ i j. shortened (times a.now b.now i j) bits) }
 {
@@ -38,7 +36,7 @@ pub fn product(a: &Rows, b: &Rows, bits: u32) -> WideRows
 
 // The product of a matrix and a small one.
 pub fn product_by_small(a: &Rows, b: &Rows, bits: u32) -> WideRows
-    requires small { IsWithin (2 ^ 60) b.now }
+    requires small { IsMatrixWithin (2 ^ 60) b.now }
     requires few { bits ≤ 48 }
     ensures { result ≡ matrix (λ i j. shortened (times a.now b.now i j) bits) }
 {
@@ -47,7 +45,7 @@ pub fn product_by_small(a: &Rows, b: &Rows, bits: u32) -> WideRows
 
 // The product of a matrix and the one whose columns are the rows of b, a small one.
 pub fn product_by_flipped(a: &Rows, b: &Rows, bits: u32) -> WideRows
-    requires small { IsWithin (2 ^ 60) b.now }
+    requires small { IsMatrixWithin (2 ^ 60) b.now }
     requires few { bits ≤ 48 }
     ensures { result ≡ matrix (λ i j. shortened (times_turned a.now b.now i j) bits) }
 {
@@ -70,9 +68,9 @@ pub fn flipped(b: &Rows) -> Rows
 }
 
 fn small_row_products(a: &[i64; 3], b: &Rows, bits: u32) -> [i128; 3]
-    requires small { RowIsWithin (2 ^ 60) a.now }
+    requires small { IsRowWithin (2 ^ 60) a.now }
     requires few { bits ≤ 48 }
-    ensures { result ≡ row_of (λ j. shortened (sum3 (λ k. at a.now k *ℤ entry b.now j k)) bits) }
+    ensures { result ≡ row_of (λ j. shortened (dot (component a.now) (entry b.now j)) bits) }
 {
     [
         rounded_sum(a, &b[0], bits),
@@ -82,9 +80,9 @@ fn small_row_products(a: &[i64; 3], b: &Rows, bits: u32) -> [i128; 3]
 }
 
 fn row_products_by_small(a: &[i64; 3], b: &Rows, bits: u32) -> [i128; 3]
-    requires small { IsWithin (2 ^ 60) b.now }
+    requires small { IsMatrixWithin (2 ^ 60) b.now }
     requires few { bits ≤ 48 }
-    ensures { result ≡ row_of (λ j. shortened (sum3 (λ k. at a.now k *ℤ entry b.now j k)) bits) }
+    ensures { result ≡ row_of (λ j. shortened (dot (component a.now) (entry b.now j)) bits) }
 {
     [
         rounded_sum_by_small(a, &b[0], bits),
@@ -95,33 +93,21 @@ fn row_products_by_small(a: &[i64; 3], b: &Rows, bits: u32) -> [i128; 3]
 
 // The sum of three products, exact before its one rounding.
 pub fn rounded_sum(a: &[i64; 3], b: &[i64; 3], bits: u32) -> i128
-    requires small { RowIsWithin (2 ^ 60) a.now }
+    requires small { IsRowWithin (2 ^ 60) a.now }
     requires few { bits ≤ 48 }
-    ensures value { result ≡ shortened (sum3 (λ k. at a.now k *ℤ at b.now k)) bits }
+    ensures value { result ≡ shortened (dot (component a.now) (component b.now)) bits }
     ensures small { unsigned_abs result ≤ 2 ^ 125 }
 {
-    rounded_shift(sum_of_products(a, b), bits)
+    rounded_shift(row_dot(a, b), bits)
 }
 
 pub fn rounded_sum_by_small(a: &[i64; 3], b: &[i64; 3], bits: u32) -> i128
-    requires small { RowIsWithin (2 ^ 60) b.now }
+    requires small { IsRowWithin (2 ^ 60) b.now }
     requires few { bits ≤ 48 }
-    ensures value { result ≡ shortened (sum3 (λ k. at a.now k *ℤ at b.now k)) bits }
+    ensures value { result ≡ shortened (dot (component a.now) (component b.now)) bits }
     ensures small { unsigned_abs result ≤ 2 ^ 125 }
 {
     rounded_sum(b, a, bits)
-}
-
-pub fn sum_of_products(a: &[i64; 3], b: &[i64; 3]) -> i128
-    requires small { RowIsWithin (2 ^ 60) a.now }
-    ensures value { result ≡ sum3 (λ k. at a.now k *ℤ at b.now k) }
-    ensures small { unsigned_abs result < 2 ^ 125 }
-{
-    sum(
-        wide_product(a[0], b[0]),
-        wide_product(a[1], b[1]),
-        wide_product(a[2], b[2]),
-    )
 }
 
 pub fn sum(a: i128, b: i128, c: i128) -> i128
@@ -134,24 +120,16 @@ pub fn sum(a: i128, b: i128, c: i128) -> i128
     a + b + c
 }
 
-fn wide_product(a: i64, b: i64) -> i128
-    requires { unsigned_abs a ≤ 2 ^ 60 }
-    ensures value { result ≡ a *ℤ b }
-    ensures small { unsigned_abs result ≤ 2 ^ 123 }
-{
-    a as i128 * b as i128
-}
-
 pub fn are_small(m: &WideRows, most: u128) -> bool
-    ensures test { result ≡ are_within most m.now }
-    ensures fact { IsTrue result → IsWithin most m.now }
+    ensures test { result ≡ is_matrix_within most m.now }
+    ensures fact { IsTrue result → IsMatrixWithin most m.now }
 {
     is_small(&m[0], most) && is_small(&m[1], most) && is_small(&m[2], most)
 }
 
 pub fn is_small(entries: &[i128; 3], most: u128) -> bool
-    ensures test { result ≡ row_is_within most entries.now }
-    ensures fact { IsTrue result → RowIsWithin most entries.now }
+    ensures test { result ≡ is_row_within most entries.now }
+    ensures fact { IsTrue result → IsRowWithin most entries.now }
 {
     entries[0].unsigned_abs() <= most
         && entries[1].unsigned_abs() <= most
@@ -159,15 +137,15 @@ pub fn is_small(entries: &[i128; 3], most: u128) -> bool
 }
 
 pub fn are_small_rows(m: &Rows, most: u64) -> bool
-    ensures test { result ≡ are_within most m.now }
-    ensures fact { IsTrue result → IsWithin most m.now }
+    ensures test { result ≡ is_matrix_within most m.now }
+    ensures fact { IsTrue result → IsMatrixWithin most m.now }
 {
     is_small_row(&m[0], most) && is_small_row(&m[1], most) && is_small_row(&m[2], most)
 }
 
 fn is_small_row(entries: &[i64; 3], most: u64) -> bool
-    ensures test { result ≡ row_is_within most entries.now }
-    ensures fact { IsTrue result → RowIsWithin most entries.now }
+    ensures test { result ≡ is_row_within most entries.now }
+    ensures fact { IsTrue result → IsRowWithin most entries.now }
 {
     entries[0].unsigned_abs() <= most
         && entries[1].unsigned_abs() <= most
@@ -175,15 +153,15 @@ fn is_small_row(entries: &[i64; 3], most: u64) -> bool
 }
 
 pub fn narrow(m: &WideRows) -> Rows
-    requires { IsWithin (2 ^ 60) m.now }
+    requires { IsMatrixWithin (2 ^ 60) m.now }
     ensures { result ≡ matrix (entry m.now) }
 {
     [narrow_row(&m[0]), narrow_row(&m[1]), narrow_row(&m[2])]
 }
 
 fn narrow_row(entries: &[i128; 3]) -> [i64; 3]
-    requires { RowIsWithin (2 ^ 60) entries.now }
-    ensures { result ≡ row_of (at entries.now) }
+    requires { IsRowWithin (2 ^ 60) entries.now }
+    ensures { result ≡ row_of (component entries.now) }
 {
     [entries[0] as i64, entries[1] as i64, entries[2] as i64]
 }
@@ -194,4 +172,16 @@ pub fn plus(a: i128, b: i128) -> i128
     ensures { result ≡ a +ℤ b }
 {
     a + b
+}
+
+// The vector of these components, which are known to be raw numbers.
+pub fn known_vector(entries: &[i128; 3]) -> V3
+    requires { IsRowWithin (2 ^ 46) entries.now }
+    ensures { result ≡ vector (component entries.now) }
+{
+    V3 {
+        x: Fix::from_known(entries[0]),
+        y: Fix::from_known(entries[1]),
+        z: Fix::from_known(entries[2]),
+    }
 }

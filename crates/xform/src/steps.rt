@@ -1,31 +1,24 @@
 // Transforms, step by step.
-ghost use Rattle.std.specs.Prelude.{◌≡◌, ◌≢◌, ℕ, ◌≤◌, ◌<◌, ◌^◌, pos, ◌*ℤ◌, ◌+ℤ◌, unsigned_abs, IfOk, Ok, IsTrue, false};
-ghost use Rattle.fix_math.specs.Directions.{shortened};
-ghost use Rattle.xform.specs.Matrices.{
-  at,
+ghost use Rattle.std.specs.Prelude.{◌≡◌, ◌≢◌, ℕ, ◌≤◌, ◌<◌, ◌^◌, pos, ◌*ℤ◌, ◌+ℤ◌, unsigned_abs, IfOk, false};
+ghost use Rattle.fix_math.specs.Matrices.{
+  component,
   along,
-  vector,
   row_of,
   matrix,
   entry,
-  image,
-  is_within,
-  IsWithin,
-  RowIsWithin,
+  IsRowWithin,
+  IsMatrixWithin,
 };
+ghost use Rattle.fix_math.specs.Numbers.{shortened};
 ghost use Rattle.xform.specs.Transforms.{
   start_of,
+  direction_of,
   point_of,
-  have_range,
   has_zero,
   translated,
   scaled,
   scaled_inverse,
   turned,
-  about_x,
-  about_y,
-  about_z,
-  anchored,
   checked,
   then_scaled,
   rotated,
@@ -34,20 +27,16 @@ ghost use Rattle.xform.specs.Transforms.{
   IsPlaced,
 };
 
+use crate::checked::{checked, have_range, with_anchor};
 use crate::matrix_step::multiply;
-use crate::rows::{
-    Rows, WideRows, are_small, are_small_rows, is_small, narrow, plus, product, product_by_flipped,
-    rounded_sum, rounded_sum_by_small,
-};
+use crate::rows::{WideRows, plus, product, product_by_flipped};
 use crate::transform::{Step, Xform, XformFault};
-use fix_math::{Fix, V3, rounded_quotient, rounded_shift, sincos};
+use fix_math::{
+    Fix, Rows, V3, raws, rotation_x, rotation_y, rotation_z, rounded_image, rounded_quotient,
+    rounded_shift,
+};
 
 const ONE: i64 = 1 << 32;
-
-// The greatest entry of a transform, and the greatest component of an anchor.
-const ENTRY_LIMIT: u64 = 1 << 44;
-
-const ANCHOR_LIMIT: u128 = 1 << 28;
 
 /// The transform that moves nothing.
 pub fn start() -> Xform
@@ -65,23 +54,24 @@ pub fn start() -> Xform
     }
 }
 
+/// The image of a direction, in raw: the anchor doesn't move it. It may be larger than any value.
+pub fn direction(x: &Xform, v: V3) -> [i128; 3]
+    ensures value { result ≡ row_of (direction_of x.now v) }
+    ensures small { IsRowWithin (2 ^ 125) result }
+{
+    rounded_image(&x.m, &v, 32)
+}
+
 /// The image of a point, in raw: it may lie outside of any range.
 pub fn point(x: &Xform, c: V3) -> [i128; 3]
     ensures value { result ≡ row_of (point_of x.now c) }
 {
-    let c = raws(&c);
+    let [x_part, y_part, z_part] = direction(x, c);
     [
-        plus(x.anchor.x.wide(), rounded_sum_by_small(&x.m[0], &c, 32)),
-        plus(x.anchor.y.wide(), rounded_sum_by_small(&x.m[1], &c, 32)),
-        plus(x.anchor.z.wide(), rounded_sum_by_small(&x.m[2], &c, 32)),
+        plus(x.anchor.x.wide(), x_part),
+        plus(x.anchor.y.wide(), y_part),
+        plus(x.anchor.z.wide(), z_part),
     ]
-}
-
-pub fn raws(v: &V3) -> [i64; 3]
-    ensures value { result ≡ row_of (along v.now) }
-    ensures small { RowIsWithin (2 ^ 47) result }
-{
-    [v.x.raw(), v.y.raw(), v.z.raw()]
 }
 
 /// The transform after a further step.
@@ -118,14 +108,6 @@ fn translate(x: &Xform, by: &V3) -> Result<Xform, XformFault>
         return Err(XformFault::EntryRange);
     }
     with_anchor(x.m, x.n, &sum_of(&x.anchor, by))
-}
-
-fn have_range(m: &Rows, n: &Rows) -> bool
-    ensures test { result ≡ have_range m.now n.now }
-    ensures m_fact { IsTrue result → IsWithin (2 ^ 44) m.now }
-    ensures n_fact { IsTrue result → IsWithin (2 ^ 44) n.now }
-{
-    are_small_rows(m, ENTRY_LIMIT) && are_small_rows(n, ENTRY_LIMIT)
 }
 
 fn sum_of(a: &V3, b: &V3) -> [i128; 3]
@@ -165,7 +147,7 @@ fn scale_by_some(x: &Xform, by: &V3) -> Result<Xform, XformFault>
     ensures placed { IfOk result IsPlaced }
 {
     let anchor = scaled_anchor(&x.anchor, by);
-    settled(
+    checked(
         &scaled_rows(&x.m, by),
         &inversely_scaled_rows(&x.n, by),
         &anchor,
@@ -194,7 +176,7 @@ fn scaled_rows(m: &Rows, by: &V3) -> WideRows
 }
 
 fn scaled_row(by: Fix, entries: &[i64; 3]) -> [i128; 3]
-    ensures { result ≡ row_of (λ j. shortened (by *ℤ at entries.now j) 16) }
+    ensures { result ≡ row_of (λ j. shortened (by *ℤ component entries.now j) 16) }
 {
     [
         scaled_entry(by, entries[0]),
@@ -226,7 +208,7 @@ fn inversely_scaled_row(entries: &[i64; 3], by: &V3) -> [i128; 3]
     requires x_some { by.now.x ≢ pos 0 }
     requires y_some { by.now.y ≢ pos 0 }
     requires z_some { by.now.z ≢ pos 0 }
-    ensures { result ≡ row_of (λ j. scaled_inverse (at entries.now j) (along by.now j)) }
+    ensures { result ≡ row_of (λ j. scaled_inverse (component entries.now j) (along by.now j)) }
 {
     [
         inversely_scaled(entries[0], by.x),
@@ -251,83 +233,15 @@ fn rotate(x: &Xform, by: &V3) -> Result<Xform, XformFault>
     turn(&x, &rotation_z(by.z))
 }
 
-fn rotation_x(deg: Fix) -> Rows
-    ensures value { result ≡ about_x deg }
-    ensures small { IsWithin (2 ^ 32) result }
-{
-    let (s, c) = sincos(deg);
-    [[ONE, 0, 0], [0, c, -s], [0, s, c]]
-}
-
-fn rotation_y(deg: Fix) -> Rows
-    ensures value { result ≡ about_y deg }
-    ensures small { IsWithin (2 ^ 32) result }
-{
-    let (s, c) = sincos(deg);
-    [[c, 0, s], [0, ONE, 0], [-s, 0, c]]
-}
-
-fn rotation_z(deg: Fix) -> Rows
-    ensures value { result ≡ about_z deg }
-    ensures small { IsWithin (2 ^ 32) result }
-{
-    let (s, c) = sincos(deg);
-    [[c, -s, 0], [s, c, 0], [0, 0, ONE]]
-}
-
 fn turn(x: &Xform, r: &Rows) -> Result<Xform, XformFault>
-    requires { IsWithin (2 ^ 60) r.now }
+    requires { IsMatrixWithin (2 ^ 60) r.now }
     ensures value { result ≡ checked (turned x.now r.now) }
     ensures placed { IfOk result IsPlaced }
 {
-    let anchor = turned_anchor(r, &x.anchor);
-    settled(
+    let anchor = rounded_image(r, &x.anchor, 32);
+    checked(
         &product(r, &x.m, 32),
         &product_by_flipped(&x.n, r, 32),
         &anchor,
     )
-}
-
-fn turned_anchor(r: &Rows, anchor: &V3) -> [i128; 3]
-    requires { IsWithin (2 ^ 60) r.now }
-    ensures { result ≡ row_of (λ i. shortened (image r.now anchor.now i) 32) }
-{
-    let anchor = raws(anchor);
-    [
-        rounded_sum(&r[0], &anchor, 32),
-        rounded_sum(&r[1], &anchor, 32),
-        rounded_sum(&r[2], &anchor, 32),
-    ]
-}
-
-/// The transform of these numbers, where they are small enough.
-pub fn settled(m: &WideRows, n: &WideRows, anchor: &[i128; 3]) -> Result<Xform, XformFault>
-    ensures value { result ≡ checked (record {
-      m = matrix (entry m.now);
-      n = matrix (entry n.now);
-      anchor = vector (at anchor.now);
-    }) }
-    ensures placed { IfOk result IsPlaced }
-{
-    if !(are_small(m, ENTRY_LIMIT as u128) && are_small(n, ENTRY_LIMIT as u128)) {
-        return Err(XformFault::EntryRange);
-    }
-    with_anchor(narrow(m), narrow(n), anchor)
-}
-
-fn with_anchor(m: Rows, n: Rows, anchor: &[i128; 3]) -> Result<Xform, XformFault>
-    requires m_small { IsWithin (2 ^ 44) m }
-    requires n_small { IsWithin (2 ^ 44) n }
-    ensures value { result ≡ anchored (record { m = m; n = n; anchor = vector (at anchor.now) }) }
-    ensures placed { IfOk result IsPlaced }
-{
-    if !is_small(anchor, ANCHOR_LIMIT) {
-        return Err(XformFault::AnchorRange);
-    }
-    let anchor = V3 {
-        x: Fix::from_known(anchor[0]),
-        y: Fix::from_known(anchor[1]),
-        z: Fix::from_known(anchor[2]),
-    };
-    Ok(Xform { m, n, anchor })
 }

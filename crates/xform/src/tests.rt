@@ -1,6 +1,6 @@
 // Expected values are worked out by hand or with exact whole numbers outside this program, from the formulas.
 ghost use Rattle.std.specs.Prelude.{IfOk};
-ghost use Rattle.xform.specs.Matrices.{IsWithin};
+ghost use Rattle.fix_math.specs.Matrices.{IsMatrixWithin};
 ghost use Rattle.xform.specs.Transforms.{IsPlaced};
 
 use super::*;
@@ -363,7 +363,7 @@ fn place_of(
     extent: u32,
 ) -> Result<Place, Option<XformFault>>
     requires placed { IfOk x IsPlaced }
-    requires small { IsWithin 65537 frame.now }
+    requires small { IsMatrixWithin 65537 frame.now }
 {
     let x = match x {
         Ok(x) => x,

@@ -1,6 +1,6 @@
 use Rattle.std.proofs.Common.{arith, sym, ◌∙◌}
 use Rattle.fix_math.proofs.ExcessLemmas.{excess-here, excess-next, next_small}
-use Rattle.fix_math.specs.Directions.{component}
+use Rattle.fix_math.specs.Matrices.{component}
 use Rattle.fix_math.proofs.directions.excess.Goals as goal
 
 pub returns-then-are_short-clause-value : goal.returns-then-are_short-clause-value

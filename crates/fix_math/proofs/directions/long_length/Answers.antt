@@ -1,6 +1,7 @@
 use Rattle.std.proofs.Common.{◌+◌, ◌*◌, unsigned_abs, arith}
-use Rattle.fix_math.proofs.LengthLemmas.{within_length, length_within}
-use Rattle.fix_math.proofs.directions.length.Goals as goal
+use Rattle.fix_math.specs.DirectionLaws.{within_length}
+use Rattle.fix_math.proofs.LengthLemmas.{length_within}
+use Rattle.fix_math.proofs.directions.long_length.Goals as goal
 
 pub returns-clause-x_within : goal.returns-clause-x_within
 returns-clause-x_within c =

@@ -1,0 +1,21 @@
+use Rattle.std.proofs.Common.{ℤ, ◌^◌, FitsSigned, ap, ◌∙◌, arith, to_z-of_z}
+use Rattle.std.specs.Int.{w128}
+use Rattle.fix_math.specs.Floor.{shortened_within}
+use Rattle.fix_math.specs.MatrixLaws.{dot-turned}
+use Rattle.fix_math.specs.Matrices.{component}
+use Rattle.fix_math.specs.Numbers.{shortened}
+use Rattle.fix_math.proofs.vectors.rounded_part.Goals as goal
+
+pub returns-clause-value : goal.returns-clause-value
+returns-clause-value c =
+    let fits : FitsSigned w128 c.rounded_shift.result = record { sfits = c.rounded_shift.type_inv } in
+    let sum : FitsSigned w128 c.row_dot.result = record { sfits = c.row_dot.type_inv } in
+    let is = simp to_z-of_z at c.rounded_shift.ensures.value in
+    to_z-of_z fits ∙ is ∙ ap (λ (t : ℤ). shortened t c.args.bits) (c.row_dot.ensures.value ∙ dot-turned (component c.args.v.now) (component c.args.row.now))
+
+pub returns-clause-small : goal.returns-clause-small
+returns-clause-small c =
+    let fits : FitsSigned w128 c.rounded_shift.result = record { sfits = c.rounded_shift.type_inv } in
+    let sum : FitsSigned w128 c.row_dot.result = record { sfits = c.row_dot.type_inv } in
+    let is = simp to_z-of_z at c.rounded_shift.ensures.value in
+    rw (to_z-of_z fits, is) (shortened_within c.row_dot.result c.args.bits (2 ^ 125) (omega (arith, c.row_dot.ensures.small)))
