@@ -28,6 +28,7 @@ if [ "$1" = version ]; then
     exit
 fi
 echo "$1 $crate" >>"$CALLS"
+echo "$2 $3" >"$CALLS.jobs"
 if [ "$crate" = middle ]; then
     [ -z "${RT_FAILS-}" ] || { echo 'middle is not proved'; exit 1; }
     sleep "${RT_SLEEP-0}" &
@@ -100,6 +101,7 @@ cd "$here/folder"
 run "$clone/povfix" +Ia.pov '' 'two  words' '*' '+O\x'
 equal 'the first run builds what the program needs, lowest first' "$every_call" "$(calls)"
 holds 'it tells which crate of how many is being proved' "$messages" 'proving base, crate 1 of 3, 0:0' 'proving middle, crate 2 of 3, 0:0' 'proving povfix_main, crate 3 of 3, 0:0'
+equal 'it uses every processor' "--jobs $(nproc)" "$(cat "$CALLS.jobs")"
 equal 'words are handed on as they are, in the folder of the call' "<+Ia.pov><><two  words><*><+O\\x>$here/folder" "$output"
 equal 'the status is the program'"'"'s' 9 "$status"
 run "$clone/povfix" --version
