@@ -107,6 +107,9 @@ equal 'the status is the program'"'"'s' 9 "$status"
 run "$clone/povfix" --version
 holds '--version names program, commit and kit' "$output" 'povfix ' 'commit ' 'proved by rattle-kit-of-tests logic 0'
 
+run "$clone/povfix" --build
+equal '--build does nothing where nothing has to be done' '0 ' "$status $output$messages$(calls)"
+
 # Through links.
 mkdir "$here/path"
 ln -s '../a clone/povfix' "$here/path/first"
