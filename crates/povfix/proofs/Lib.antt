@@ -5,7 +5,7 @@ pub mod OptionsLemmas
 pub mod Storing
 pub mod Telling
 pub mod Counts
-pub mod Meanings
+pub mod Endings
 pub mod PlanSides
 pub mod Verdicts
 pub mod Pictures

@@ -9,11 +9,12 @@ use Rattle.csg_hits.specs.Nearest.{IsNearest}
 use Rattle.scene_lexer.specs.declared.token.Token.{Token as TextToken}
 use Rattle.image_out.specs.declared.picture.Sort.TheVariants.{Ppm}
 use Rattle.image_out.specs.Files.{file_of}
-use Rattle.povfix.specs.declared.options.Plan.{Plan}
 use Rattle.directive_machine.specs.declared.texts.Text.{Text}
-use Rattle.povfix.specs.Grammar.{Painted, Drawn, settings_of, IsScene}
-use Rattle.povfix.specs.Picture.{pixel_ray_of, bytes_of, IsBallHit, Shows, IsPicture}
-use Rattle.povfix.specs.Verdict.{IsMeant, IsDrawn, IsImage, IsMeaning}
+use Rattle.povfix.specs.Grammar.{Painted, Drawn, IsScene}
+use Rattle.povfix.specs.Picture.{pixel_ray_of, pixel_shows, IsBallHit, Shows, IsPicture}
+use Rattle.povfix.specs.Samples.{pixel_bytes}
+use Rattle.povfix.specs.Conversions.{settings_of}
+use Rattle.povfix.specs.Frames.{IsMeant, IsDrawn, IsImage, IsMeaning}
 use Rattle.povfix.proofs.OneScene.{one_scene}
 
 -- ---- a ray shows one colour
@@ -57,32 +58,32 @@ same_threes (suc count) a b size_a size_b same =
     further : (k : ℕ) → take 3 (drop (3 * (k + 1)) a) ≡ take 3 (drop (3 * (k + 1)) b) → take 3 (drop (3 * k) (drop 3 a)) ≡ take 3 (drop (3 * k) (drop 3 b))
     further k here = let place : 3 * (k + 1) ≡ 3 + 3 * k = omega arith in simp drop-drop (rw place at here)
 
-one_picture : (drawn : Drawn) (width height : ℕ) (a b : List ℕ) → IsPicture drawn width height a → IsPicture drawn width height b → a ≡ b
-one_picture drawn width height a b p q = same_threes (width * height) a b p.size q.size (λ k lt.
+one_picture : (scene : Drawn) (width height : ℕ) (a b : List ℕ) → IsPicture (pixel_shows (Shows scene) width height) width height 8 a → IsPicture (pixel_shows (Shows scene) width height) width height 8 b → a ≡ b
+one_picture scene width height a b p q = same_threes (width * height) a b p.size q.size (λ k lt.
     let left = p.pixels k lt in
     let right = q.pixels k lt in
-    let same : left.0 ≡ right.0 = one_colour drawn (pixel_ray_of width height (k % width) (k / width)) left.0 right.0 left.1 right.1 in
-    left.2 ∙ ap bytes_of same ∙ sym right.2)
+    let same : left.0 ≡ right.0 = one_colour scene (pixel_ray_of width height (k % width) (k / width)) left.0 right.0 left.1 right.1 in
+    left.2 ∙ ap (pixel_bytes 8) same ∙ sym right.2)
 
-one_drawn : (plan : Plan) (drawn : Drawn) (a b : List ℕ) → IsDrawn plan drawn a → IsDrawn plan drawn b → a ≡ b
-one_drawn plan drawn a b p q =
-    let same : p.picture ≡ q.picture = one_picture drawn plan.width plan.height p.picture q.picture p.shown q.shown in
-    p.file ∙ ap (file_of Ppm plan.width plan.height 8) same ∙ sym q.file
+one_drawn : (width height : ℕ) (scene : Drawn) (a b : List ℕ) → IsDrawn width height scene a → IsDrawn width height scene b → a ≡ b
+one_drawn width height scene a b p q =
+    let same : p.picture ≡ q.picture = one_picture scene width height p.picture q.picture p.shown q.shown in
+    p.filed ∙ ap (file_of Ppm width height 8) same ∙ sym q.filed
 
 -- ---- a text has one scene, and so one file
 
-one_meant : (plan : Plan) (text : List ℕ) (a b : Drawn) → IsMeant plan text a → IsMeant plan text b → a ≡ b
-one_meant plan text a b p q =
+one_meant : (width height : ℕ) (text : List ℕ) (a b : Drawn) → IsMeant width height text a → IsMeant width height text b → a ≡ b
+one_meant width height text a b p q =
     let same : q.tokens ≡ p.tokens = cc in
-    let scene = subst (λ (tokens : List TextToken). IsScene tokens (settings_of plan.width plan.height) (Ok b)) same q.scene in
-    cc (one_scene p.tokens (settings_of plan.width plan.height) (Ok a) (Ok b) p.scene scene)
+    let scene = subst (λ (tokens : List TextToken). IsScene tokens (settings_of width height) (Ok b)) same q.parsed in
+    cc (one_scene p.tokens (settings_of width height) (Ok a) (Ok b) p.parsed scene)
 
-one_image : (plan : Plan) (text a b : List ℕ) → IsImage plan text a → IsImage plan text b → a ≡ b
-one_image plan text a b p q =
-    let same : q.drawn ≡ p.drawn = one_meant plan text q.drawn p.drawn q.meant p.meant in
-    one_drawn plan p.drawn a b p.image (subst (λ drawn. IsDrawn plan drawn b) same q.image)
+one_image : (name : List ℕ) (width height : ℕ) (text a b : List ℕ) → IsImage name width height text a → IsImage name width height text b → a ≡ b
+one_image name width height text a b p q =
+    let same : q.scene ≡ p.scene = one_meant width height text q.scene p.scene q.meant p.meant in
+    one_drawn width height p.scene a b p.drawn (subst (λ scene. IsDrawn width height scene b) same q.drawn)
 
-pub one_meaning : (plan : Plan) (texts : List Text) (a b : List ℕ) → IsMeaning plan texts a → IsMeaning plan texts b → a ≡ b
-one_meaning plan texts a b p q =
+pub one_meaning : (name : List ℕ) (width height : ℕ) (texts : List Text) (a b : List ℕ) → IsMeaning name width height texts a → IsMeaning name width height texts b → a ≡ b
+one_meaning name width height texts a b p q =
     let same : q.0 ≡ p.0 = cc (p.1, q.1) in
-    one_image plan p.0 a b p.2 (subst (λ text. IsImage plan text b) same q.2)
+    one_image name width height p.0 a b p.2 (subst (λ text. IsImage name width height text b) same q.2)

@@ -7,7 +7,7 @@ use Rattle.std.proofs.lemmas.List.Folds.{list_any_at}
 use Rattle.povfix.specs.declared.options.Plan.{Plan}
 use Rattle.povfix.specs.declared.options.OptionFault.TheVariants as OptionFault
 use Rattle.povfix.specs.declared.options.Where.TheVariants as Where
-use Rattle.povfix.specs.Options.{has_dot, stem_of, plan_from, plan_of, first_plan, finished, ◌>>=◌, setting_of, applied}
+use Rattle.povfix.specs.Options.{has_dot, stem_of, plan_from, plan_of, first_plan, completed, ◌>>=◌, setting_of, applied}
 
 -- where each element fails the test, none passes it
 list_any_never : (p : ℕ → Bool) (xs : List ℕ) → ((k : ℕ) → k < length xs → p (get_or xs k 0) ≡ false) → list_any p xs ≡ false
@@ -54,6 +54,6 @@ unfolding plan_of
 plan_of-many words many = let e : nat_lt 65536 (length words) ≡ true = grind (arith, nat_tests) in rw e
 
 -- the words, and then what is left to see
-pub plan_of-few : (words : List (List ℕ)) → length words ≤ 65536 → plan_of words ≡ (plan_from 1 first_plan words >>= finished)
+pub plan_of-few : (words : List (List ℕ)) → length words ≤ 65536 → plan_of words ≡ (plan_from 1 first_plan words >>= completed)
 unfolding plan_of
 plan_of-few words few = let e : nat_lt 65536 (length words) ≡ false = grind (arith, nat_tests) in rw e

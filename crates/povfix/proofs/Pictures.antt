@@ -19,7 +19,8 @@ use Rattle.csg_hits.specs.Strikes.{IsStruck}
 use Rattle.povfix.specs.declared.scene.Ball.{Ball}
 use Rattle.povfix.specs.Grammar.{painted_of, Drawn}
 use Rattle.fix_math.specs.Directions.{unit_of}
-use Rattle.povfix.specs.Picture.{offset_of, right_offset, up_offset, pixel_ray_of, holds_at, IsBallHit, Shows, bytes_of}
+use Rattle.povfix.specs.Picture.{offset_of, right_offset, up_offset, pixel_ray_of, holds_at, IsBallHit, Shows}
+use Rattle.povfix.specs.Samples.{pixel_bytes}
 
 pub offset_small : (extent place : ℤ) (size : ℕ) → unsigned_abs extent ≤ 131072 → 0 < size → unsigned_abs place ≤ size → unsigned_abs (offset_of extent place size) ≤ 65536
 offset_small extent place size small some within =
@@ -113,20 +114,20 @@ same_ray width height column row right up dir is_right is_up is_dir = rw (is_dir
 
 pub record Pixels (drawn : Drawn) (width height count : ℕ) (bytes : List ℕ) : Type 0 where
   pub size : length bytes ≡ 3 * count
-  pub pixels : (k : ℕ) → k < count → (colour : V3) × Shows drawn (pixel_ray_of width height (k % width) (k / width)) colour × (take 3 (drop (3 * k) bytes) ≡ bytes_of colour)
+  pub pixels : (k : ℕ) → k < count → (colour : V3) × Shows drawn (pixel_ray_of width height (k % width) (k / width)) colour × (take 3 (drop (3 * k) bytes) ≡ pixel_bytes 8 colour)
 
-pixel_at : (drawn : Drawn) (width height : ℕ) (bytes : List ℕ) (count : ℕ) (colour : V3) → length bytes ≡ 3 * count → Shows drawn (pixel_ray_of width height (count % width) (count / width)) colour → (k : ℕ) → k ≡ count → (c : V3) × Shows drawn (pixel_ray_of width height (k % width) (k / width)) c × (take 3 (drop (3 * k) (bytes ++ bytes_of colour)) ≡ bytes_of c)
+pixel_at : (drawn : Drawn) (width height : ℕ) (bytes : List ℕ) (count : ℕ) (colour : V3) → length bytes ≡ 3 * count → Shows drawn (pixel_ray_of width height (count % width) (count / width)) colour → (k : ℕ) → k ≡ count → (c : V3) × Shows drawn (pixel_ray_of width height (k % width) (k / width)) c × (take 3 (drop (3 * k) (bytes ++ pixel_bytes 8 colour)) ≡ pixel_bytes 8 c)
 pixel_at drawn width height bytes count colour size shown k is = (
   colour,
   subst (λ n. Shows drawn (pixel_ray_of width height (n % width) (n / width)) colour) (sym is) shown,
-  pixel_here bytes (bytes_of colour) k (size ∙ ap (λ n. 3 * n) (sym is)) refl,
+  pixel_here bytes (pixel_bytes 8 colour) k (size ∙ ap (λ n. 3 * n) (sym is)) refl,
 )
 
-pub next_pixels : (drawn : Drawn) (width height : ℕ) (bytes : List ℕ) (count : ℕ) (colour : V3) → length bytes ≡ 3 * count → ((k : ℕ) → k < count → (c : V3) × Shows drawn (pixel_ray_of width height (k % width) (k / width)) c × (take 3 (drop (3 * k) bytes) ≡ bytes_of c)) → Shows drawn (pixel_ray_of width height (count % width) (count / width)) colour → Pixels drawn width height (count + 1) (bytes ++ bytes_of colour)
+pub next_pixels : (drawn : Drawn) (width height : ℕ) (bytes : List ℕ) (count : ℕ) (colour : V3) → length bytes ≡ 3 * count → ((k : ℕ) → k < count → (c : V3) × Shows drawn (pixel_ray_of width height (k % width) (k / width)) c × (take 3 (drop (3 * k) bytes) ≡ pixel_bytes 8 c)) → Shows drawn (pixel_ray_of width height (count % width) (count / width)) colour → Pixels drawn width height (count + 1) (bytes ++ pixel_bytes 8 colour)
 next_pixels drawn width height bytes count colour size pixels shown = record {
-  size = omega (arith, size, length-append bytes (bytes_of colour));
+  size = omega (arith, size, length-append bytes (pixel_bytes 8 colour));
   pixels = λ k lt. ⊎_elim
-      (λ (low : k < count). let pixel = pixels k low in (pixel.0, pixel.1, pixel_before bytes (bytes_of colour) k (omega (arith, size)) ∙ pixel.2))
+      (λ (low : k < count). let pixel = pixels k low in (pixel.0, pixel.1, pixel_before bytes (pixel_bytes 8 colour) k (omega (arith, size)) ∙ pixel.2))
       (λ (high : count ≤ k). pixel_at drawn width height bytes count colour size shown k (omega arith))
       (cases_lt k count);
 }

@@ -9,8 +9,8 @@ use Rattle.povfix.specs.declared.options.OptionFault.TheVariants.{UnknownWord, B
 use Rattle.povfix.specs.declared.options.Where.TheVariants.{Word}
 use Rattle.povfix.specs.declared.options.Setting.{Setting}
 use Rattle.povfix.specs.declared.options.Setting.TheVariants.{Input, Output, Width, Height, Ppm}
-use Rattle.povfix.specs.Options.{lower, is_whole, whole_of, side_of, name_of, file_type_of, begins_with_t, switch_of, setting_of, applied, plan_from, plan_of, finished, first_plan, image_name, ◌>>=◌}
-use Rattle.povfix.specs.Verdict.{IsSides}
+use Rattle.povfix.specs.Options.{lower, is_whole, whole_of, side_of, name_of, file_type_of, begins_with_t, switch_of, setting_of, applied, plan_from, plan_of, completed, first_plan, image_name, ◌>>=◌}
+use Rattle.povfix.specs.Frames.{IsSides}
 use Rattle.povfix.proofs.OptionsLemmas.{plan_from-cons, plan_from-none}
 
 -- a refusal that no reading of a text is the cause of
@@ -28,8 +28,12 @@ IsFitting (Ok (Height n)) = (0 < n) × (n ≤ 8192)
 IsFitting (Ok _) = Unit {0}
 IsFitting (Err fault) = IsOwn fault
 
+-- a plan's sides are in their ranges
+abbrev HasSides : Plan → Type 0
+HasSides plan = IsSides plan.width plan.height
+
 abbrev IsFine : Result Plan OptionFault → Type 0
-IsFine (Ok plan) = IsSides plan
+IsFine (Ok plan) = HasSides plan
 IsFine (Err fault) = IsOwn fault
 
 either : {X : Type 0} (P : X → Type 0) (b : Bool) (x y : X) → P x → P y → P (if b then x else y)
@@ -77,7 +81,7 @@ setting_fits number (b ∷ rest) =
     either IsFitting (b == 43 || b == 45) (switch_of number rest) _ (switch_fits number rest)
     (either IsFitting (ends_with nat_eq (b ∷ rest) (codes ".pov")) (Ok Input) (Err (OutOfProfile (Word number))) tt tt)
 
-applied_sides : (setting : Setting) (word : List ℕ) (plan : Plan) → IsFitting (Ok setting) → IsSides plan → IsSides (applied setting word plan)
+applied_sides : (setting : Setting) (word : List ℕ) (plan : Plan) → IsFitting (Ok setting) → HasSides plan → HasSides (applied setting word plan)
 applied_sides Input word plan fits sides = record { width_some = sides.width_some; width_most = sides.width_most; height_some = sides.height_some; height_most = sides.height_most }
 applied_sides Output word plan fits sides = record { width_some = sides.width_some; width_most = sides.width_most; height_some = sides.height_some; height_most = sides.height_most }
 applied_sides (Width n) word plan fits sides = record { width_some = fits.0; width_most = fits.1; height_some = sides.height_some; height_most = sides.height_most }
@@ -88,15 +92,15 @@ then_fine : {X : Type 0} (P : Result X OptionFault → Type 0) (r : Result X Opt
 then_fine P (Ok x) next own p fine = fine x p
 then_fine P (Err fault) next own p fine = own fault p
 
-words_fine : (words : List (List ℕ)) (number : ℕ) (plan : Plan) → IsSides plan → IsFine (plan_from number plan words)
+words_fine : (words : List (List ℕ)) (number : ℕ) (plan : Plan) → HasSides plan → IsFine (plan_from number plan words)
 words_fine [] number plan sides = subst IsFine (sym (plan_from-none number plan)) sides
 words_fine (word ∷ words) number plan sides =
     subst IsFine (sym (plan_from-cons number plan word words))
     (then_fine IsFitting (setting_of number word) _ (λ fault own. own) (setting_fits number word)
     (λ setting fits. words_fine words (number + 1) (applied setting word plan) (applied_sides setting word plan fits sides)))
 
-finished_fine : (plan : Plan) → IsSides plan → IsFine (finished plan)
-finished_fine plan sides =
+completed_fine : (plan : Plan) → HasSides plan → IsFine (completed plan)
+completed_fine plan sides =
     either IsFine (length plan.input == 0) (Err (Missing (Word 0))) _ tt
     (either IsFine (nat_lt (2 ^ 24) (plan.width * plan.height)) (Err (Range (Word 0))) (Ok (record plan { output = image_name plan })) tt
     (record { width_some = sides.width_some; width_most = sides.width_most; height_some = sides.height_some; height_most = sides.height_most }))
@@ -105,11 +109,11 @@ plan_fine : (words : List (List ℕ)) → IsFine (plan_of words)
 unfolding plan_of
 plan_fine words =
     either IsFine (nat_lt 65536 (length words)) (Err (Range (Word 0))) _ tt
-    (then_fine IsFine (plan_from 1 first_plan words) finished (λ fault own. own)
+    (then_fine IsFine (plan_from 1 first_plan words) completed (λ fault own. own)
     (words_fine words 1 first_plan (record { width_some = omega arith; width_most = omega arith; height_some = omega arith; height_most = omega arith }))
-    finished_fine)
+    completed_fine)
 
-pub plan_sides : (words : List (List ℕ)) (plan : Plan) → plan_of words ≡ Ok plan → IsSides plan
+pub plan_sides : (words : List (List ℕ)) (plan : Plan) → plan_of words ≡ Ok plan → IsSides plan.width plan.height
 plan_sides words plan is = subst IsFine is (plan_fine words)
 
 pub refusal_own : (words : List (List ℕ)) → plan_of words ≡ Err TextFault → ⊥

@@ -239,16 +239,3 @@ painted_of ball = record { centre = ball.sphere.centre; radius = ball.sphere.rad
 -- what is drawn of a scene
 abbrev pub drawn_of : Scene → Drawn
 drawn_of scene = record { background = scene.background; balls = map painted_of scene.balls.items }
-
--- a single frame tells its expressions the size of its picture; its clock is 0, and it is the first and the last
-abbrev pub settings_of : ℕ → ℕ → Settings
-settings_of width height = record {
-  clock = pos 0;
-  initial_clock = pos 0;
-  final_clock = pos 65536;
-  frame_number = 1;
-  initial_frame = 1;
-  final_frame = 1;
-  image_width = width;
-  image_height = height;
-}

@@ -1,6 +1,10 @@
 pub mod Options
 pub mod Ranges
 pub mod Grammar
+pub mod Samples
 pub mod Picture
+pub mod Conversions
 pub mod Lines
+pub mod Frames
 pub mod Verdict
+pub mod Steps

@@ -8,17 +8,6 @@ use Rattle.povfix.specs.declared.options.Where.TheVariants.{Word, Line}
 use Rattle.povfix.specs.declared.outcome.Fault.{Fault}
 use Rattle.povfix.specs.declared.outcome.Fault.TheVariants.{Done, OptionFault, SceneFault, Limit, Absent, TextFault, ShelfFault, NoMemory}
 
--- the exit status
-abbrev pub status_of : Fault → ℕ
-status_of Done = 0
-status_of (OptionFault kind place) = 1
-status_of (SceneFault letter kind place) = 2
-status_of (Limit which place) = 3
-status_of (Absent name) = 4
-status_of TextFault = 5
-status_of ShelfFault = 7
-status_of NoMemory = 9
-
 abbrev pub where_line : Where → List ℕ
 where_line (Word number) = codes "word " ++ decimal number
 where_line (Line number) = codes "line " ++ decimal number
@@ -63,7 +52,7 @@ IsPlaced (Absent name) = Unit {0}
 IsPlaced _ = ⊥
 
 -- a fault was told by its line, or there was no memory for the line, and that was told
-abbrev pub Tells : Option (List ℕ) → Option (List ℕ) → ℕ → ℕ → List ℕ → Fault → Fault → Type 0
-Tells before now faults_before faults_now line fault told =
+abbrev pub IsTold : Option (List ℕ) → Option (List ℕ) → ℕ → ℕ → List ℕ → Fault → Fault → Type 0
+IsTold before now faults_before faults_now line fault told =
     ((told ≡ fault) × Says before now faults_before faults_now line)
     ⊎ ((told ≡ NoMemory) × Says before now faults_before faults_now (codes "no memory\n"))

@@ -115,8 +115,8 @@ image_name plan =
     else (if has_dot plan.output then plan.output else plan.output ++ codes ".ppm")
 
 -- what is left to see once all words are read
-abbrev pub finished : Plan → Result Plan OptionFault
-finished plan =
+abbrev pub completed : Plan → Result Plan OptionFault
+completed plan =
     if length plan.input == 0
     then Err (Missing (Word 0))
     else (if nat_lt (2 ^ 24) (plan.width * plan.height)
@@ -132,4 +132,4 @@ unfoldable pub plan_of : List (List ℕ) → Result Plan OptionFault
 plan_of words =
     if nat_lt 65536 (length words)
     then Err (Range (Word 0))
-    else (plan_from 1 first_plan words >>= finished)
+    else (plan_from 1 first_plan words >>= completed)

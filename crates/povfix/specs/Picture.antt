@@ -1,8 +1,8 @@
 -- The picture of a scene, as the default camera sees it: from the middle of the world along z, 1.33 units wide and one
 -- unit high at a distance of one unit. (Reference manual, camera)
-use Rattle.std.specs.Prelude.{ℕ, ℤ, pos, ◌-ℤ◌, ◌*ℤ◌, ◌≡◌, ◌⊎◌, ◌+◌, ◌*◌, ◌/◌, ◌%◌, ◌<◌, List, [], ◌∷◌, length, take, drop, IsSomeAnd, slice_get}
+use Rattle.std.specs.Prelude.{ℕ, ℤ, pos, ◌-ℤ◌, ◌*ℤ◌, ◌≡◌, ◌⊎◌, ◌+◌, ◌*◌, ◌/◌, ◌%◌, ◌<◌, List, length, take, drop, IsSomeAnd, slice_get}
 use Rattle.fix_math.specs.declared.fix.V3.{V3}
-use Rattle.fix_math.specs.Numbers.{rnd, sample_of}
+use Rattle.fix_math.specs.Numbers.{rnd}
 use Rattle.fix_math.specs.Directions.{unit_of}
 use Rattle.shapes.specs.declared.ray.Ray.{Ray}
 use Rattle.shapes.specs.Rays.{Position}
@@ -10,6 +10,7 @@ use Rattle.shapes.specs.Spheres.{IsInSphere}
 use Rattle.csg_hits.specs.declared.hit.Hit.{Hit}
 use Rattle.csg_hits.specs.Nearest.{IsHit, IsNearest}
 use Rattle.povfix.specs.Grammar.{Painted, Drawn}
+use Rattle.povfix.specs.Samples.{pixel_length, pixel_bytes}
 
 -- the middle of a pixel along an axis of this extent, from the middle of the picture: twice its place counts in halves
 abbrev pub offset_of : ℤ → ℤ → ℕ → ℤ
@@ -41,11 +42,11 @@ Shows drawn ray colour =
     ((hit : Hit) × IsNearest (IsBallHit drawn.balls ray) hit × IsSomeAnd (slice_get drawn.balls hit.object) (λ ball. colour ≡ ball.colour))
     ⊎ (((t object : ℕ) → ¬ IsBallHit drawn.balls ray t object) × (colour ≡ drawn.background))
 
--- a pixel's red, green and blue
-abbrev pub bytes_of : V3 → List ℕ
-bytes_of colour = sample_of 8 colour.x ∷ sample_of 8 colour.y ∷ sample_of 8 colour.z ∷ []
+-- what each pixel of a picture shows, by column and row: the colour that its ray shows
+abbrev pub pixel_shows : (Ray → V3 → Type 0) → ℕ → ℕ → ℕ → ℕ → V3 → Type 0
+pixel_shows shows width height column row colour = shows (pixel_ray_of width height column row) colour
 
--- three bytes for each pixel, by rows from the top: those of the colour that its ray shows
-pub record IsPicture (drawn : Drawn) (width height : ℕ) (bytes : List ℕ) : Type 0 where
-  pub size : length bytes ≡ 3 * (width * height)
-  pub pixels : (k : ℕ) → k < width * height → (colour : V3) × Shows drawn (pixel_ray_of width height (k % width) (k / width)) colour × (take 3 (drop (3 * k) bytes) ≡ bytes_of colour)
+-- the samples of each pixel, by rows from the top: those of the colour that it shows
+pub record IsPicture (shows : ℕ → ℕ → V3 → Type 0) (width height bits : ℕ) (bytes : List ℕ) : Type 0 where
+  pub size : length bytes ≡ pixel_length bits * (width * height)
+  pub pixels : (k : ℕ) → k < width * height → (colour : V3) × shows (k % width) (k / width) colour × (take (pixel_length bits) (drop (pixel_length bits * k) bytes) ≡ pixel_bytes bits colour)

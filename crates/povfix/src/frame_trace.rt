@@ -3,11 +3,12 @@ ghost use Rattle.std.specs.Prelude.{◌≡◌, ◌≤◌, ◌<◌, ◌^◌, ◌*
 ghost use Rattle.shapes.specs.Rays.{IsRayDirection};
 ghost use Rattle.povfix.specs.Ranges.{IsColour};
 ghost use Rattle.povfix.specs.Grammar.{drawn_of};
-ghost use Rattle.povfix.specs.Picture.{offset_of, pixel_ray_of, Shows, IsPicture};
+ghost use Rattle.povfix.specs.Picture.{offset_of, pixel_ray_of, pixel_shows, Shows, IsPicture};
 
+use crate::sample::append_pixel;
 use crate::scene::Scene;
 use csg_hits::nearest;
-use fix_math::{Fix, V3, channel_byte, rounded, unit};
+use fix_math::{Fix, V3, rounded, unit};
 use shapes::Ray;
 use std::alloc::{AllocError, Global};
 
@@ -83,18 +84,13 @@ pub fn draw(alloc: Global, scene: &Scene, width: u32, height: u32) -> Result<Vec
     requires width_most { width ≤ 8192 }
     requires height_most { height ≤ 8192 }
     requires few { length scene.now.balls.items < 2 ^ 32 }
-    ensures { IfOk result (λ bytes. IsPicture (drawn_of scene.now) width height bytes.items) }
+    ensures { IfOk result (λ bytes. IsPicture (pixel_shows (Shows (drawn_of scene.now)) width height) width height 8 bytes.items) }
 {
     let mut picture = Vec::with_capacity(alloc, 3 * width as usize * height as usize)?;
     for pixel in 0..width * height {
         let ray = pixel_ray(width, height, pixel % width, pixel / width);
         let colour = colour_of(scene, &ray);
-        let bytes = [
-            channel_byte(colour.x),
-            channel_byte(colour.y),
-            channel_byte(colour.z),
-        ];
-        picture.extend_from_slice(&bytes)?;
+        append_pixel(8, &colour, &mut picture)?;
     }
     Ok(picture)
 }

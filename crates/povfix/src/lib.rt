@@ -1,14 +1,15 @@
 //! From command words and scene texts to picture files.
 #![tactic(auto)]
 
+mod conversions;
 mod frame_trace;
 mod grammar;
-mod image_file;
 mod law;
 mod options;
 mod outcome;
 mod parser;
 mod render;
+mod sample;
 mod say;
 mod scene;
 mod store;

@@ -1,7 +1,7 @@
 // The command words. (Reference manual, command-line options)
 ghost use Rattle.std.specs.Prelude.{Ok, Err, ◌≡◌, ◌≢◌, ◌&&◌, ◌≤◌, true, length, take, min, map, nat_le, string_bytes, IfOk, IfErr};
 ghost use Rattle.std.specs.List.{list_all};
-ghost use Rattle.povfix.specs.Options.{lower, is_whole, whole_of, side_of, name_of, file_type_of, begins_with_t, switch_of, setting_of, name_in, applied, plan_from, has_dot, stem_of, image_name, finished, first_plan, plan_of};
+ghost use Rattle.povfix.specs.Options.{lower, is_whole, whole_of, side_of, name_of, file_type_of, begins_with_t, switch_of, setting_of, name_in, applied, plan_from, has_dot, stem_of, image_name, completed, first_plan, plan_of};
 
 use fix_math::Str;
 use std::alloc::{AllocError, Global};
@@ -281,9 +281,9 @@ fn image_name(alloc: Global, plan: &Plan) -> Result<Str, AllocError>
 }
 
 /// What is left to see once all words are read.
-fn finish(alloc: Global, plan: Plan) -> Result<Plan, OptionFault>
-    ensures plan { IfOk result (λ done. finished plan ≡ Ok done) }
-    ensures fault { IfErr result (λ fault. fault ≢ OptionFault.NoMemory → finished plan ≡ Err fault) }
+fn complete(alloc: Global, plan: Plan) -> Result<Plan, OptionFault>
+    ensures plan { IfOk result (λ done. completed plan ≡ Ok done) }
+    ensures fault { IfErr result (λ fault. fault ≢ OptionFault.NoMemory → completed plan ≡ Err fault) }
 {
     if plan.input.bytes().is_empty() {
         return Err(OptionFault::Missing(Where::Word(0)));
@@ -336,7 +336,7 @@ pub fn read(alloc: Global, words: &[String]) -> Result<Plan, OptionFault>
         return Err(OptionFault::Range(Where::Word(0)));
     }
     match read_words(alloc, words) {
-        Ok(plan) => finish(alloc, plan),
+        Ok(plan) => complete(alloc, plan),
         Err(fault) => Err(fault),
     }
 }

@@ -1,132 +1,140 @@
 // The top call: from words and texts to a picture file.
-ghost use Rattle.std.specs.Prelude.{◌≡◌, ◌⊎◌, List, [], Some, Ok, map, string_bytes, IfOk, IfErr, IsErrOf};
+ghost use Rattle.std.specs.Prelude.{◌≡◌, ◌⊎◌, ◌≤◌, ◌*◌, ◌<◌, ◌^◌, List, ℕ, Option, Some, Ok, length, map, take, string_bytes, IfOk, IfErr, OnOk, MatchBool};
+ghost use Rattle.image_out.specs.Files.{file_of};
 ghost use Rattle.shelf.specs.Causes.{HasCause, Rose};
-ghost use Rattle.shelf.specs.Disk.{Tells};
+ghost use Rattle.shelf.specs.Disk.{SameOthers, Tells};
 ghost use Rattle.directive_machine.specs.declared.texts.Text.{Text};
-ghost use Rattle.povfix.specs.Lines.{line_of, status_of, IsPlaced, Says};
+ghost use Rattle.povfix.specs.Conversions.{input_of, status_of};
+ghost use Rattle.povfix.specs.Frames.{frame_of, frames_in, reached_by, AreStored, IsFinished, IsSides, IsStored, SameBesides};
+ghost use Rattle.povfix.specs.Lines.{line_of, IsPlaced, Says};
 ghost use Rattle.povfix.specs.Options.{plan_of};
-ghost use Rattle.directive_machine.specs.Texts.{text_of};
-ghost use Rattle.povfix.specs.Verdict.{finished_of, input_of, refused_fault, IsCaused, IsEarly, IsFound, IsMeaning, IsOptionAnswer, IsPlanFault, IsSides, IsStored, IsUntouched, IsVerdict, OthersStay};
+ghost use Rattle.povfix.specs.Steps.{IsEnd, IsLong, IsUnread};
+ghost use Rattle.directive_machine.specs.Texts.{text_of, IsWithinLimit};
+ghost use Rattle.povfix.specs.Verdict.{FrameVerdict, IsCausedBy, IsOptionAnswer, IsVerdict};
 
-use crate::image_file::image_file;
-use crate::options::{self, OptionFault, Plan};
+use crate::conversions::{settings_of, status};
+use crate::frame_trace::draw;
+use crate::options::{self, Plan};
 use crate::outcome::{Fault, Outcome};
-use crate::say::{status, tell};
+use crate::parser::parse;
+use crate::say::tell;
 use crate::store::store;
 use directive_machine::{ReadFail, Texts};
 use fix_math::Str;
-use shelf::{HoldFail, Shelf, Sink};
-use std::alloc::Global;
+use image_out::{Picture, Sort, put, room};
+use scene_lexer::{Place, lex};
+use shelf::{Shelf, Sink};
+use std::alloc::{AllocError, Global};
 use std::thread::Threads;
 
-/// The fault that a refusal of the options is answered by.
-fn refused(fault: OptionFault) -> Fault
-    ensures { result ≡ refused_fault fault }
-{
-    match fault {
-        OptionFault::UnknownWord(place) => Fault::OptionFault(1, place),
-        OptionFault::BadNumber(place) => Fault::OptionFault(2, place),
-        OptionFault::Missing(place) => Fault::OptionFault(3, place),
-        OptionFault::Range(place) => Fault::OptionFault(4, place),
-        OptionFault::AbsentIni(place) => Fault::OptionFault(5, place),
-        OptionFault::BadLine(place) => Fault::OptionFault(6, place),
-        OptionFault::OutOfProfile(place) => Fault::OptionFault(7, place),
-        OptionFault::TextFault => Fault::TextFault,
-        OptionFault::NoMemory => Fault::NoMemory,
-    }
-}
+/// The start of the first text.
+const START: Place = Place {
+    file: 0,
+    at: 0,
+    line: 1,
+};
 
-/// The name of a text that isn't there.
-fn absent(alloc: Global, name: &[u8]) -> Fault
-    ensures { (result ≡ Fault.Absent name.now) ⊎ (result ≡ Fault.NoMemory) }
-{
-    match name.to_vec(alloc) {
-        Ok(name) => Fault::Absent(Str::new(name)),
-        Err(_) => Fault::NoMemory,
-    }
-}
+/// How many bytes the texts of a frame have at most, with their names and eight bytes for the lengths of each.
+const MOST_TEXT: usize = 1 << 24;
 
-/// Reads the scene text and makes its picture file's bytes.
-fn read_image<T: Texts>(alloc: Global, plan: &Plan, texts: &mut T) -> Result<Vec<u8>, Fault>
-    requires sides { IsSides plan.now }
-    ensures image { IfOk result (λ file. (h : List Text) → T.held texts.old ≡ Some h
-        → IsMeaning plan.now h file.items) }
-    ensures caused { IfErr result (λ fault. (h : List Text) → T.held texts.old ≡ Some h
-        → IsFound plan.now (text_of h plan.now.input) fault) }
-    ensures early { IfErr result IsEarly }
-    ensures cause { HasCause (T.faults texts.old) (T.faults texts.new) (IsErrOf result Fault.TextFault) }
+/// The bytes of the scene text.
+fn read<T: Texts>(alloc: Global, texts: &mut T, name: &[u8]) -> Result<Vec<u8>, Fault>
+    ensures text { IfOk result (λ text. (h : List Text) → T.held texts.old ≡ Some h → text_of h name.now ≡ Some text.items) }
+    ensures fault { IfErr result (IsUnread name.now (T.held texts.old) (T.faults texts.old) (T.faults texts.new)) }
+    ensures later { T.faults texts.old ≤ T.faults texts.new }
     ensures texts { T.held texts.new ≡ T.held texts.old }
 {
-    match texts.read(alloc, plan.input.bytes()) {
-        Ok(Some(text)) => image_file(alloc, plan, &text),
-        Ok(None) => Err(absent(alloc, plan.input.bytes())),
+    match texts.read(alloc, name) {
+        Ok(Some(text)) => Ok(text),
+        Ok(None) => Err(Fault::Absent(Str::new(name.to_vec(alloc)?))),
         Err(ReadFail::Failed) => Err(Fault::TextFault),
         Err(ReadFail::NoMemory) => Err(Fault::NoMemory),
     }
 }
 
-/// Makes the picture file's bytes and puts them into the storage.
-fn frame<T: Texts, S: Shelf>(alloc: Global, plan: &Plan, texts: &mut T, shelf: &mut S) -> Fault
-    requires sides { IsSides plan.now }
-    ensures caused { (h : List Text) → T.held texts.old ≡ Some h → IsFound plan.now (text_of h plan.now.input) result }
-    ensures inside { IsPlanFault result }
-    ensures stored { result ≡ Fault.Done → (h : List Text) → T.held texts.old ≡ Some h → IsStored (Ok plan.now) h (S.holds shelf.new) }
-    ensures text_fault { HasCause (T.faults texts.old) (T.faults texts.new) (result ≡ Fault.TextFault) }
-    ensures shelf_fault { HasCause (S.faults shelf.old) (S.faults shelf.new) (result ≡ Fault.ShelfFault) }
-    ensures others { OthersStay (Ok plan.now) (S.holds shelf.old) (S.holds shelf.new) }
-    ensures untouched { IsUntouched result (S.holds shelf.old) (S.holds shelf.new) }
-    ensures tells { Tells (S.holds shelf.old) (S.holds shelf.new) }
-    ensures texts { T.held texts.new ≡ T.held texts.old }
+/// Refuses a text that is longer than the texts of a frame may be.
+fn limit(name: &[u8], text: &[u8]) -> Result<(), Fault>
+    ensures within { OnOk result (IsWithinLimit name.now text.now) }
+    ensures fault { IfErr result (IsLong name.now text.now) }
 {
-    let file = match read_image(alloc, plan, texts) {
-        Ok(file) => file,
-        Err(fault) => return fault,
-    };
-    match store(alloc, shelf, plan.output.bytes(), &file) {
-        Ok(()) => Fault::Done,
-        Err(HoldFail::Failed) => Fault::ShelfFault,
-        Err(HoldFail::NoMemory) => Fault::NoMemory,
+    match name.len().checked_add(8) {
+        Some(front) => match front.checked_add(text.len()) {
+            Some(size) if size <= MOST_TEXT => Ok(()),
+            _ => Err(Fault::Limit(4, START)),
+        },
+        None => Err(Fault::Limit(4, START)),
     }
 }
 
-/// Tells how the run ends.
-fn finish<S: Shelf, K: Sink>(
+/// The picture in the form of its file.
+fn filed(alloc: Global, width: u32, height: u32, picture: &[u8]) -> Result<Vec<u8>, AllocError>
+    requires sides { IsSides width height }
+    requires whole { length picture.now ≡ 3 * (width * height) }
+    ensures { IfOk result (λ file. file.items ≡ file_of Sort.Ppm width height 8 picture.now) }
+{
+    let room = room(Sort::Ppm, width, height, 8);
+    let mut file = Vec::with_capacity(alloc, room as usize)?;
+    let picture = Picture {
+        width,
+        height,
+        bits: 8,
+        bytes: picture,
+    };
+    put(Sort::Ppm, &picture, &mut file);
+    Ok(file)
+}
+
+/// One frame, from its text to its picture file in the storage.
+fn frame<T: Texts, S: Shelf>(
+    alloc: Global,
+    plan: &Plan,
+    texts: &mut T,
+    shelf: &mut S,
+) -> Result<(), Fault>
+    requires sides { IsSides plan.now.width plan.now.height }
+    ensures stored { OnOk result ((h : List Text) → T.held texts.old ≡ Some h → IsStored (frame_of plan.now) h (S.holds shelf.new)) }
+    ensures end { IfErr result (IsEnd (frame_of plan.now) (T.held texts.old) (T.faults texts.old) (T.faults texts.new)
+        (S.faults shelf.old) (S.faults shelf.new) (S.holds shelf.old) (S.holds shelf.new)) }
+    ensures drawn { OnOk result ((h : List Text) → T.held texts.old ≡ Some h → FrameVerdict (frame_of plan.now) h Fault.Done) }
+    ensures others { SameOthers plan.now.output (S.holds shelf.old) (S.holds shelf.new) }
+    ensures tells { Tells (S.holds shelf.old) (S.holds shelf.new) }
+    ensures texts { T.held texts.new ≡ T.held texts.old }
+{
+    let name = plan.input.bytes();
+    let text = read(alloc, texts, name)?;
+    limit(name, &text)?;
+    let tokens = lex(alloc, 0, &text)?;
+    let scene = parse(alloc, &tokens, &settings_of(plan.width, plan.height))?;
+    let picture = draw(alloc, &scene, plan.width, plan.height)?;
+    let file = filed(alloc, plan.width, plan.height, &picture)?;
+    store(alloc, shelf, plan.output.bytes(), &file)?;
+    Ok(())
+}
+
+/// Tells how the run ends, and hands the storage back.
+fn ended<S: Shelf, K: Sink>(
     alloc: Global,
     shelf: S,
     messages: &mut K,
     scene: &[u8],
+    finished: u32,
     fault: Fault,
 ) -> Outcome<S>
     ensures shelf { result.shelf ≡ shelf }
     ensures said { Says (K.written messages.old) (K.written messages.new) (K.faults messages.old) (K.faults messages.new) (line_of scene.now result.fault) }
+    ensures quiet { result.fault ≡ Fault.Done → messages.new ≡ messages.old }
     ensures fault { (result.fault ≡ fault) ⊎ ((result.fault ≡ Fault.NoMemory) × IsPlaced fault) }
     ensures status { result.status ≡ status_of result.fault }
-    ensures finished { result.finished ≡ finished_of result.fault }
+    ensures finished { result.finished ≡ finished }
     ensures traced { result.traced.items ≡ [] }
 {
     let fault = tell(alloc, messages, scene, fault);
     Outcome {
         status: status(&fault),
-        finished: finished(&fault),
         fault,
         traced: Vec::new(alloc),
+        finished,
         shelf,
-    }
-}
-
-/// How many frames are finished where a run ends like this.
-fn finished(fault: &Fault) -> u32
-    ensures { result ≡ finished_of fault.now }
-{
-    match fault {
-        Fault::Done => 1,
-        Fault::OptionFault(..)
-        | Fault::SceneFault(..)
-        | Fault::Limit(..)
-        | Fault::Absent(_)
-        | Fault::TextFault
-        | Fault::ShelfFault
-        | Fault::NoMemory => 0,
     }
 }
 
@@ -141,10 +149,10 @@ pub fn run<T: Texts, S: Shelf + Send, K: Sink>(
     mut shelf: S,
     messages: &mut K,
 ) -> Outcome<S>
-    ensures stored { result.fault ≡ Fault.Done → (h : List Text) → T.held texts.old ≡ Some h
-        → IsStored (plan_of (map string_bytes words.now)) h (S.holds result.shelf) }
+    ensures stored { (h : List Text) → T.held texts.old ≡ Some h
+        → AreStored (take result.finished (frames_in (plan_of (map string_bytes words.now)))) h (S.holds result.shelf) }
     ensures caused { (h : List Text) → T.held texts.old ≡ Some h
-        → IsCaused (map string_bytes words.now) h result.fault }
+        → IsCausedBy (IsVerdict (map string_bytes words.now) h) result.fault }
     ensures complete { (h : List Text) → T.held texts.old ≡ Some h
         → (verdict : Fault) → IsVerdict (map string_bytes words.now) h verdict
         → ¬ Rose (T.faults texts.old) (T.faults texts.new) → ¬ Rose (S.faults shelf) (S.faults result.shelf)
@@ -152,22 +160,25 @@ pub fn run<T: Texts, S: Shelf + Send, K: Sink>(
     ensures options { IsOptionAnswer (plan_of (map string_bytes words.now)) result.fault }
     ensures text_fault { result.fault ≡ Fault.TextFault → Rose (T.faults texts.old) (T.faults texts.new) }
     ensures shelf_fault { result.fault ≡ Fault.ShelfFault → Rose (S.faults shelf) (S.faults result.shelf) }
-    ensures others { OthersStay (plan_of (map string_bytes words.now)) (S.holds shelf) (S.holds result.shelf) }
-    ensures untouched { IsUntouched result.fault (S.holds shelf) (S.holds result.shelf) }
+    ensures others { SameBesides (take (reached_by result.fault result.finished) (frames_in (plan_of (map string_bytes words.now))))
+        (S.holds shelf) (S.holds result.shelf) }
     ensures tells { Tells (S.holds shelf) (S.holds result.shelf) }
     ensures texts { T.held texts.new ≡ T.held texts.old }
     ensures said { Says (K.written messages.old) (K.written messages.new)
         (K.faults messages.old) (K.faults messages.new)
         (line_of (input_of (plan_of (map string_bytes words.now))) result.fault) }
+    ensures quiet { result.fault ≡ Fault.Done → messages.new ≡ messages.old }
     ensures status { result.status ≡ status_of result.fault }
-    ensures finished { result.finished ≡ finished_of result.fault }
+    ensures finished { IsFinished (frames_in (plan_of (map string_bytes words.now))) result.fault result.finished }
     ensures traced { result.traced.items ≡ [] }
 {
-    match options::read(alloc, words) {
-        Ok(plan) => {
-            let fault = frame(alloc, &plan, texts, &mut shelf);
-            finish(alloc, shelf, messages, plan.input.bytes(), fault)
-        }
-        Err(fault) => finish(alloc, shelf, messages, b"", refused(fault)),
+    let plan = match options::read(alloc, words) {
+        Ok(plan) => plan,
+        Err(refusal) => return ended(alloc, shelf, messages, b"", 0, Fault::from(refusal)),
+    };
+    let scene = plan.input.bytes();
+    match frame(alloc, &plan, texts, &mut shelf) {
+        Ok(()) => ended(alloc, shelf, messages, scene, 1, Fault::Done),
+        Err(fault) => ended(alloc, shelf, messages, scene, 0, fault),
     }
 }

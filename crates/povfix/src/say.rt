@@ -1,28 +1,12 @@
 // What a run says of how it ends.
 ghost use Rattle.std.specs.Prelude.{◌≡◌, ◌⊎◌, ◌++◌, ℕ, List, IfOk, OnOk};
 ghost use Rattle.std.specs.Fmt.{decimal};
-ghost use Rattle.povfix.specs.Lines.{absent_line, limit_line, line_of, option_line, place_end, scene_line, status_of, where_line, IsPlaced, Says, Tells};
+ghost use Rattle.povfix.specs.Lines.{absent_line, limit_line, line_of, option_line, place_end, scene_line, where_line, IsPlaced, IsTold, Says};
 
 use crate::options::Where;
 use crate::outcome::Fault;
 use shelf::Sink;
 use std::alloc::{AllocError, Global};
-
-/// The exit status of a fault.
-pub fn status(fault: &Fault) -> u8
-    ensures { result ≡ status_of fault.now }
-{
-    match fault {
-        Fault::Done => 0,
-        Fault::OptionFault(..) => 1,
-        Fault::SceneFault(..) => 2,
-        Fault::Limit(..) => 3,
-        Fault::Absent(_) => 4,
-        Fault::TextFault => 5,
-        Fault::ShelfFault => 7,
-        Fault::NoMemory => 9,
-    }
-}
 
 fn push_number(alloc: Global, line: &mut Vec<u8>, number: u32) -> Result<(), AllocError>
     ensures { OnOk result (line.new.items ≡ line.old.items ++ decimal number) }
@@ -124,7 +108,8 @@ fn say<K: Sink>(messages: &mut K, line: &[u8])
 
 /// Writes the line of a fault, or that there is no memory for it, which takes the fault's place.
 fn say_placed<K: Sink>(messages: &mut K, line: Result<Vec<u8>, AllocError>, fault: Fault) -> Fault
-    ensures { (bytes : List ℕ) → IfOk line (λ written. written.items ≡ bytes) → Tells (K.written messages.old) (K.written messages.new) (K.faults messages.old) (K.faults messages.new) bytes fault result }
+    ensures told { (bytes : List ℕ) → IfOk line (λ written. written.items ≡ bytes) → IsTold (K.written messages.old) (K.written messages.new) (K.faults messages.old) (K.faults messages.new) bytes fault result }
+    ensures quiet { result ≡ Fault.Done → fault ≡ Fault.Done }
 {
     match line {
         Ok(line) => {
@@ -138,17 +123,15 @@ fn say_placed<K: Sink>(messages: &mut K, line: Result<Vec<u8>, AllocError>, faul
     }
 }
 
-/// Writes the line of a fault to the sink, with the name of the scene text. Where there is no memory for the line,
-/// that is the fault.
+/// Writes the line of a fault to the sink, with the name of the scene text, and nothing at all where all is done. Where
+/// there is no memory for the line, that is the fault.
 pub fn tell<K: Sink>(alloc: Global, messages: &mut K, scene: &[u8], fault: Fault) -> Fault
     ensures said { Says (K.written messages.old) (K.written messages.new) (K.faults messages.old) (K.faults messages.new) (line_of scene.now result) }
+    ensures quiet { result ≡ Fault.Done → messages.new ≡ messages.old }
     ensures fault { (result ≡ fault) ⊎ ((result ≡ Fault.NoMemory) × IsPlaced fault) }
 {
     match fault {
-        Fault::Done => {
-            say(messages, b"");
-            Fault::Done
-        }
+        Fault::Done => Fault::Done,
         Fault::OptionFault(kind, place) => {
             let line = option_line(alloc, kind, place);
             say_placed(messages, line, Fault::OptionFault(kind, place))

@@ -1,15 +1,13 @@
-use Rattle.std.proofs.Common.{◌≡◌, ◌*◌, ◌++◌, [], ◌∷◌, length, take, drop, ap, ◌∙◌, subst, arith}
+use Rattle.std.proofs.Common.{◌≡◌, ◌*◌, ◌++◌, length, take, drop, ap, ◌∙◌, subst, arith}
 use Rattle.povfix.specs.Grammar.{drawn_of}
-use Rattle.povfix.specs.Picture.{Shows, bytes_of}
+use Rattle.povfix.specs.Picture.{Shows}
 use Rattle.povfix.proofs.Pictures.{next_pixels}
 use Rattle.povfix.proofs.frame_trace.draw.Goals as goal
 
 pub loop-pixel-preserved : goal.loop-pixel-preserved
 loop-pixel-preserved c =
-    let bytes : c.channel_byte.result ∷ c.channel_byte-in-loop-pixel.result ∷ c.channel_byte-in-loop-pixel-2.result ∷ [] ≡ bytes_of c.colour_of-colour.result =
-    rw (c.channel_byte.ensures, c.channel_byte-in-loop-pixel.ensures, c.channel_byte-in-loop-pixel-2.ensures) in
     let shown = subst (λ ray. Shows (drawn_of c.args.scene.now) ray c.colour_of-colour.result) c.pixel_ray-ray.ensures.value c.colour_of-colour.ensures.shown in
-    let all = c.in_ok-extend_from_slice.ensures.items ∙ ap (λ more. c.loop-pixel.picture.items ++ more) bytes in
+    let all = c.in_ok-append_pixel.ensures in
     let next = next_pixels (drawn_of c.args.scene.now) c.args.width c.args.height c.loop-pixel.picture.items c.loop-pixel.pixel c.colour_of-colour.result c.loop-pixel.invariant.size c.loop-pixel.invariant.pixels shown in
     record {
       size = ap length all ∙ next.size;

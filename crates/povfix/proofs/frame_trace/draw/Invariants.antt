@@ -2,11 +2,12 @@
 use Rattle.std.proofs.Common.{◌≡◌, ℕ, ◌*◌, ◌/◌, ◌%◌, ◌<◌, take, drop, length}
 use Rattle.fix_math.specs.declared.fix.V3.{V3}
 use Rattle.povfix.specs.Grammar.{drawn_of}
-use Rattle.povfix.specs.Picture.{pixel_ray_of, Shows, bytes_of}
+use Rattle.povfix.specs.Picture.{pixel_ray_of, Shows}
+use Rattle.povfix.specs.Samples.{pixel_bytes}
 use Rattle.povfix.proofs.frame_trace.draw.Given as goal
 
 abbrev pub invariant-loop-pixel : goal.invariant-loop-pixel
 invariant-loop-pixel l = record {
   size : length l.picture.items ≡ 3 * l.pixel;
-  pixels : (k : ℕ) → k < l.pixel → (colour : V3) × Shows (drawn_of l.scene) (pixel_ray_of l.width l.height (k % l.width) (k / l.width)) colour × (take 3 (drop (3 * k) l.picture.items) ≡ bytes_of colour);
+  pixels : (k : ℕ) → k < l.pixel → (colour : V3) × Shows (drawn_of l.scene) (pixel_ray_of l.width l.height (k % l.width) (k / l.width)) colour × (take 3 (drop (3 * k) l.picture.items) ≡ pixel_bytes 8 colour);
 }

@@ -1,0 +1,73 @@
+-- Each step's fault is an end of the frame.
+use Rattle.std.proofs.Common.{◌≡◌, ◌≢◌, ℕ, List, refl, sym, ap, ◌∙◌, subst, Option, Some, None, Result, Ok, Err}
+use Rattle.scene_lexer.specs.declared.token.LexFault.{LexFault}
+use Rattle.scene_lexer.specs.declared.token.LexFault.TheVariants.{BadByte, OpenComment, OpenString, LongName, NumberRange}
+use Rattle.scene_lexer.specs.declared.token.Token.{Token as TextToken}
+use Rattle.scene_lexer.specs.Tokens.{tokens_of}
+use Rattle.shelf.specs.Causes.{Rose}
+use Rattle.shelf.specs.Disk.{Contents, SameContents}
+use Rattle.povfix.specs.declared.outcome.Fault.{Fault}
+use Rattle.povfix.specs.declared.outcome.Fault.TheVariants.{Done, OptionFault, SceneFault, Limit, Absent, TextFault, ShelfFault, NoMemory}
+use Rattle.povfix.specs.declared.parser.Refusal.{Refusal}
+use Rattle.directive_machine.specs.declared.texts.Text.{Text}
+use Rattle.povfix.specs.Conversions.{lex_fault, parse_fault, settings_of}
+use Rattle.povfix.specs.Frames.{Frame}
+use Rattle.povfix.specs.Grammar.{IsScene}
+use Rattle.povfix.specs.Steps.{IsEnd, IsEnding, IsLong, IsUnread}
+use Rattle.directive_machine.specs.Texts.{text_of, IsWithinLimit}
+use Rattle.povfix.specs.Verdict.{text_start, FrameVerdict, IsCausedBy, TextVerdict}
+
+-- a fault of words and texts alone, or want of memory
+abbrev IsRefusal : Fault → Type 0
+IsRefusal (SceneFault letter kind place) = Unit {0}
+IsRefusal (Limit which place) = Unit {0}
+IsRefusal (Absent name) = Unit {0}
+IsRefusal NoMemory = Unit {0}
+IsRefusal fault = ⊥
+
+abbrev lex_no_memory : LexFault → Type 0
+lex_no_memory fault = fault ≡ LexFault.NoMemory
+
+module _ (frame : Frame) (told : Option (List Text)) (texts_before texts_now shelf_before shelf_now : ℕ) (holds : Contents) where
+  -- what a text's refusal leaves: nothing is touched
+  abbrev Ends : Fault → Type 0
+  Ends = IsEnd frame told texts_before texts_now shelf_before shelf_now holds holds
+
+  same : SameContents holds holds
+  same n c held = held
+
+  refused : (fault : Fault) → IsRefusal fault → ((texts : List Text) → told ≡ Some texts → IsCausedBy (FrameVerdict frame texts) fault) → Ends fault
+  refused (SceneFault letter kind place) refusal caused = record { ending = tt; caused = caused; text_fault = λ e. cc; shelf_fault = λ e. cc; kept = λ e. same }
+  refused (Limit which place) refusal caused = record { ending = tt; caused = caused; text_fault = λ e. cc; shelf_fault = λ e. cc; kept = λ e. same }
+  refused (Absent name) refusal caused = record { ending = tt; caused = caused; text_fault = λ e. cc; shelf_fault = λ e. cc; kept = λ e. same }
+  refused NoMemory refusal caused = record { ending = tt; caused = caused; text_fault = λ e. cc; shelf_fault = λ e. cc; kept = λ e. same }
+  refused Done refusal caused = absurd refusal
+  refused (OptionFault kind place) refusal caused = absurd refusal
+  refused TextFault refusal caused = absurd refusal
+  refused ShelfFault refusal caused = absurd refusal
+
+  pub no_memory_ends : Ends NoMemory
+  no_memory_ends = refused NoMemory tt (λ texts held. tt)
+
+  pub unread_ends : (fault : Fault) → IsUnread frame.input told texts_before texts_now fault → Ends fault
+  unread_ends fault (IsUnread.absent is none) = subst Ends (sym is) (refused (Absent frame.input) tt (λ texts held. FrameVerdict.absent (none texts held) refl))
+  unread_ends fault (IsUnread.failed is rose) = subst Ends (sym is) (record { ending = tt; caused = λ texts held. tt; text_fault = λ e. rose; shelf_fault = λ e. cc; kept = λ e. same })
+  unread_ends fault (IsUnread.no_memory is) = subst Ends (sym is) no_memory_ends
+
+  module _ (text : List ℕ) (found : (texts : List Text) → told ≡ Some texts → text_of texts frame.input ≡ Some text) where
+    pub long_ends : (fault : Fault) → IsLong frame.input text fault → Ends fault
+    long_ends fault long = subst Ends (sym long.answer) (refused (Limit 4 text_start) tt (λ texts held. FrameVerdict.found text (found texts held) (TextVerdict.long long.long refl)))
+
+    pub lexed_ends : (fault : LexFault) → IsWithinLimit frame.input text → (fault ≢ LexFault.NoMemory → tokens_of 0 text ≡ Err fault) → Ends (lex_fault fault)
+    lexed_ends (BadByte place) short why = refused _ tt (λ texts held. FrameVerdict.found text (found texts held) (TextVerdict.no_tokens (BadByte place) short (why (λ e. cc)) refl))
+    lexed_ends (OpenComment place) short why = refused _ tt (λ texts held. FrameVerdict.found text (found texts held) (TextVerdict.no_tokens (OpenComment place) short (why (λ e. cc)) refl))
+    lexed_ends (OpenString place) short why = refused _ tt (λ texts held. FrameVerdict.found text (found texts held) (TextVerdict.no_tokens (OpenString place) short (why (λ e. cc)) refl))
+    lexed_ends (LongName place) short why = refused _ tt (λ texts held. FrameVerdict.found text (found texts held) (TextVerdict.no_tokens (LongName place) short (why (λ e. cc)) refl))
+    lexed_ends (NumberRange place) short why = refused _ tt (λ texts held. FrameVerdict.found text (found texts held) (TextVerdict.no_tokens (NumberRange place) short (why (λ e. cc)) refl))
+    lexed_ends LexFault.NoMemory short why = no_memory_ends
+
+    pub parsed_ends : (tokens : List TextToken) (refusal : Refusal) → IsWithinLimit frame.input text → tokens_of 0 text ≡ Ok tokens → (refusal ≢ Refusal.NoMemory → IsScene tokens (settings_of frame.width frame.height) (Err refusal)) → Ends (parse_fault refusal)
+    parsed_ends tokens (Refusal.Expected kind place) short lexed why = refused _ tt (λ texts held. FrameVerdict.found text (found texts held) (TextVerdict.no_scene tokens (Refusal.Expected kind place) short lexed (why (λ e. cc)) refl))
+    parsed_ends tokens (Refusal.OutOfProfile place) short lexed why = refused _ tt (λ texts held. FrameVerdict.found text (found texts held) (TextVerdict.no_scene tokens (Refusal.OutOfProfile place) short lexed (why (λ e. cc)) refl))
+    parsed_ends tokens (Refusal.ValueRange place) short lexed why = refused _ tt (λ texts held. FrameVerdict.found text (found texts held) (TextVerdict.no_scene tokens (Refusal.ValueRange place) short lexed (why (λ e. cc)) refl))
+    parsed_ends tokens Refusal.NoMemory short lexed why = no_memory_ends

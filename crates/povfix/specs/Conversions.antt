@@ -1,0 +1,73 @@
+-- What one layer answers, in the words of the next.
+use Rattle.std.specs.Prelude.{ℕ, pos, Result, Ok, Err, List, []}
+use Rattle.scene_lexer.specs.declared.token.LexFault.{LexFault}
+use Rattle.scene_lexer.specs.declared.token.LexFault.TheVariants.{BadByte, OpenComment, OpenString, LongName, NumberRange}
+use Rattle.scene_expr.specs.declared.value.Settings.{Settings}
+use Rattle.shelf.specs.declared.disk.HoldFail.{HoldFail}
+use Rattle.povfix.specs.declared.options.OptionFault.{OptionFault as OptionRefusal}
+use Rattle.povfix.specs.declared.options.Plan.{Plan}
+use Rattle.povfix.specs.declared.outcome.Fault.{Fault}
+use Rattle.povfix.specs.declared.outcome.Fault.TheVariants.{Done, OptionFault, SceneFault, Limit, Absent, TextFault, ShelfFault, NoMemory}
+use Rattle.povfix.specs.declared.parser.Refusal.{Refusal}
+
+-- a refusal of the options, by its kind
+abbrev pub option_fault : OptionRefusal → Fault
+option_fault (OptionRefusal.UnknownWord place) = OptionFault 1 place
+option_fault (OptionRefusal.BadNumber place) = OptionFault 2 place
+option_fault (OptionRefusal.Missing place) = OptionFault 3 place
+option_fault (OptionRefusal.Range place) = OptionFault 4 place
+option_fault (OptionRefusal.AbsentIni place) = OptionFault 5 place
+option_fault (OptionRefusal.BadLine place) = OptionFault 6 place
+option_fault (OptionRefusal.OutOfProfile place) = OptionFault 7 place
+option_fault OptionRefusal.TextFault = TextFault
+option_fault OptionRefusal.NoMemory = NoMemory
+
+-- a fault of the tokens, under the letter L
+abbrev pub lex_fault : LexFault → Fault
+lex_fault (BadByte place) = SceneFault 76 1 place
+lex_fault (OpenComment place) = SceneFault 76 2 place
+lex_fault (OpenString place) = SceneFault 76 3 place
+lex_fault (LongName place) = SceneFault 76 4 place
+lex_fault (NumberRange place) = SceneFault 76 5 place
+lex_fault LexFault.NoMemory = NoMemory
+
+-- a fault of the items, under the letter P
+abbrev pub parse_fault : Refusal → Fault
+parse_fault (Refusal.Expected kind place) = SceneFault 80 1 place
+parse_fault (Refusal.OutOfProfile place) = SceneFault 80 2 place
+parse_fault (Refusal.ValueRange place) = SceneFault 80 3 place
+parse_fault Refusal.NoMemory = NoMemory
+
+-- a failing storage
+abbrev pub hold_fault : HoldFail → Fault
+hold_fault HoldFail.Failed = ShelfFault
+hold_fault HoldFail.NoMemory = NoMemory
+
+-- a single frame tells its expressions the size of its picture; its clock is 0, and it is the first and the last
+abbrev pub settings_of : ℕ → ℕ → Settings
+settings_of width height = record {
+  clock = pos 0;
+  initial_clock = pos 0;
+  final_clock = pos 65536;
+  frame_number = 1;
+  initial_frame = 1;
+  final_frame = 1;
+  image_width = width;
+  image_height = height;
+}
+
+-- the name of the scene text that a fault's line tells
+abbrev pub input_of : Result Plan OptionRefusal → List ℕ
+input_of (Ok plan) = plan.input
+input_of (Err refusal) = []
+
+-- the exit status
+abbrev pub status_of : Fault → ℕ
+status_of Done = 0
+status_of (OptionFault kind place) = 1
+status_of (SceneFault letter kind place) = 2
+status_of (Limit which place) = 3
+status_of (Absent name) = 4
+status_of TextFault = 5
+status_of ShelfFault = 7
+status_of NoMemory = 9
