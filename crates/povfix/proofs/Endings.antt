@@ -1,19 +1,24 @@
 -- Each step's fault is an end of the frame.
-use Rattle.std.proofs.Common.{◌≡◌, ◌≢◌, ℕ, List, refl, sym, ap, ◌∙◌, subst, Option, Some, None, Result, Ok, Err}
+use Rattle.std.proofs.Common.{◌≡◌, ◌≢◌, ℕ, List, refl, sym, subst, Option, Some, Result, Ok, Err}
 use Rattle.scene_lexer.specs.declared.token.LexFault.{LexFault}
 use Rattle.scene_lexer.specs.declared.token.LexFault.TheVariants.{BadByte, OpenComment, OpenString, LongName, NumberRange}
 use Rattle.scene_lexer.specs.declared.token.Token.{Token as TextToken}
 use Rattle.scene_lexer.specs.Tokens.{tokens_of}
+use Rattle.scene_expr.specs.declared.value.Settings.{Settings}
+use Rattle.image_out.specs.declared.picture.Sort.TheVariants.{Ppm}
+use Rattle.image_out.specs.Files.{file_of}
+use Rattle.shelf.specs.declared.disk.HoldFail.{HoldFail}
 use Rattle.shelf.specs.Causes.{Rose}
 use Rattle.shelf.specs.Disk.{Contents, SameContents}
 use Rattle.povfix.specs.declared.outcome.Fault.{Fault}
 use Rattle.povfix.specs.declared.outcome.Fault.TheVariants.{Done, OptionFault, SceneFault, Limit, Absent, TextFault, ShelfFault, NoMemory}
 use Rattle.povfix.specs.declared.parser.Refusal.{Refusal}
 use Rattle.directive_machine.specs.declared.texts.Text.{Text}
-use Rattle.povfix.specs.Conversions.{lex_fault, parse_fault, settings_of}
+use Rattle.povfix.specs.Conversions.{hold_fault, lex_fault, parse_fault, settings_of}
 use Rattle.povfix.specs.Frames.{Frame}
-use Rattle.povfix.specs.Grammar.{IsScene}
-use Rattle.povfix.specs.Steps.{IsEnd, IsEnding, IsLong, IsUnread}
+use Rattle.povfix.specs.Grammar.{Drawn, IsScene}
+use Rattle.povfix.specs.Picture.{IsPicture, Shows, pixel_shows}
+use Rattle.povfix.specs.Steps.{IsEnd, IsLong, IsUnread}
 use Rattle.directive_machine.specs.Texts.{text_of, IsWithinLimit}
 use Rattle.povfix.specs.Verdict.{text_start, FrameVerdict, IsCausedBy, TextVerdict}
 
@@ -24,9 +29,6 @@ IsRefusal (Limit which place) = Unit {0}
 IsRefusal (Absent name) = Unit {0}
 IsRefusal NoMemory = Unit {0}
 IsRefusal fault = ⊥
-
-abbrev lex_no_memory : LexFault → Type 0
-lex_no_memory fault = fault ≡ LexFault.NoMemory
 
 module _ (frame : Frame) (told : Option (List Text)) (texts_before texts_now shelf_before shelf_now : ℕ) (holds : Contents) where
   -- what a text's refusal leaves: nothing is touched
@@ -71,3 +73,29 @@ module _ (frame : Frame) (told : Option (List Text)) (texts_before texts_now she
     parsed_ends tokens (Refusal.OutOfProfile place) short lexed why = refused _ tt (λ texts held. FrameVerdict.found text (found texts held) (TextVerdict.no_scene tokens (Refusal.OutOfProfile place) short lexed (why (λ e. cc)) refl))
     parsed_ends tokens (Refusal.ValueRange place) short lexed why = refused _ tt (λ texts held. FrameVerdict.found text (found texts held) (TextVerdict.no_scene tokens (Refusal.ValueRange place) short lexed (why (λ e. cc)) refl))
     parsed_ends tokens Refusal.NoMemory short lexed why = no_memory_ends
+
+-- the frame's picture file is what it comes to
+pub drawn_verdict : (frame : Frame) (told : Option (List Text)) (text : List ℕ) → ((texts : List Text) → told ≡ Some texts → text_of texts frame.input ≡ Some text) → (tokens : List TextToken) (scene : Drawn) (picture file : List ℕ) → IsWithinLimit frame.input text → tokens_of 0 text ≡ Ok tokens → IsScene tokens (settings_of frame.width frame.height) (Ok scene) → IsPicture (pixel_shows (Shows scene) frame.width frame.height) frame.width frame.height 8 picture → file ≡ file_of Ppm frame.width frame.height 8 picture → (texts : List Text) → told ≡ Some texts → FrameVerdict frame texts Done
+drawn_verdict frame told text found tokens scene picture file short lexed parsed shown filed texts held =
+    FrameVerdict.found text (found texts held) (TextVerdict.drawn file
+    (record {
+      short = short;
+      scene = scene;
+      meant = record { tokens = tokens; lexed = lexed; parsed = parsed };
+      drawn = record { picture = picture; shown = shown; filed = filed };
+    }) refl)
+
+-- a storage that fails, or has no memory for the file
+pub stored_ends : (frame : Frame) (told : Option (List Text)) (texts_before texts_now shelf_before shelf_now : ℕ) (old new : Contents) (fail : HoldFail) → ((texts : List Text) → told ≡ Some texts → FrameVerdict frame texts Done) → (fail ≡ HoldFail.Failed → Rose shelf_before shelf_now) → (fail ≡ HoldFail.NoMemory → SameContents old new) → IsEnd frame told texts_before texts_now shelf_before shelf_now old new (hold_fault fail)
+stored_ends frame told texts_before texts_now shelf_before shelf_now old new HoldFail.Failed verdict rose kept = record { ending = tt; caused = verdict; text_fault = λ e. cc; shelf_fault = λ e. rose refl; kept = λ other. absurd (other refl) }
+stored_ends frame told texts_before texts_now shelf_before shelf_now old new HoldFail.NoMemory verdict rose kept = record { ending = tt; caused = λ texts held. tt; text_fault = λ e. cc; shelf_fault = λ e. cc; kept = λ other. kept refl }
+
+-- a text under another spelling of its name and bytes
+pub long_at : (name name' text text' : List ℕ) (fault : Fault) → name ≡ name' → text ≡ text' → IsLong name text fault → IsLong name' text' fault
+long_at name name' text text' fault is_name is_text long = subst (λ t. IsLong name' t fault) is_text (subst (λ n. IsLong n text fault) is_name long)
+
+pub within_at : (name name' text text' : List ℕ) → name ≡ name' → text ≡ text' → IsWithinLimit name text → IsWithinLimit name' text'
+within_at name name' text text' is_name is_text short = subst (λ t. IsWithinLimit name' t) is_text (subst (λ n. IsWithinLimit n text) is_name short)
+
+pub scene_at : (tokens tokens' : List TextToken) (set set' : Settings) (r : Result Drawn Refusal) → tokens ≡ tokens' → set ≡ set' → IsScene tokens set r → IsScene tokens' set' r
+scene_at tokens tokens' set set' r is_tokens is_set scene = subst (λ s. IsScene tokens' s r) is_set (subst (λ ts. IsScene ts set r) is_tokens scene)

@@ -1,5 +1,5 @@
 -- What words and texts come to is one fault.
-use Rattle.std.proofs.Common.{◌≡◌, ◌≢◌, ◌⊎◌, ℕ, List, inl, inr, refl, sym, ap, ◌∙◌, subst, Some, None, Result, Ok, Err}
+use Rattle.std.proofs.Common.{◌≡◌, ◌≢◌, ◌⊎◌, ℕ, List, inl, inr, refl, sym, ap, ◌∙◌, subst, Result, Ok, Err}
 use Rattle.scene_lexer.specs.declared.token.Token.{Token as TextToken}
 use Rattle.scene_lexer.specs.Tokens.{tokens_of}
 use Rattle.povfix.specs.declared.options.Plan.{Plan}
@@ -9,7 +9,7 @@ use Rattle.povfix.specs.declared.outcome.Fault.TheVariants.{Done, OptionFault, S
 use Rattle.povfix.specs.declared.parser.Refusal.{Refusal}
 use Rattle.directive_machine.specs.declared.texts.Text.{Text}
 use Rattle.povfix.specs.Conversions.{lex_fault, option_fault, parse_fault, settings_of}
-use Rattle.povfix.specs.Frames.{Frame, IsImage}
+use Rattle.povfix.specs.Frames.{Frame, frame_of, IsImage}
 use Rattle.povfix.specs.Grammar.{IsScene}
 use Rattle.povfix.specs.Lines.{IsPlaced}
 use Rattle.povfix.specs.Options.{plan_of}
@@ -64,11 +64,11 @@ one_plan : (planned : Result Plan Refused) (texts : List Text) (x y : Fault) →
 one_plan (Ok plan) texts x y px py = one_frame _ texts x y px py
 one_plan (Err refused) texts x y px py = px ∙ sym py
 
-pub one_verdict : (words : List (List ℕ)) (texts : List Text) (x y : Fault) → IsVerdict words texts x → IsVerdict words texts y → x ≡ y
+one_verdict : (words : List (List ℕ)) (texts : List Text) (x y : Fault) → IsVerdict words texts x → IsVerdict words texts y → x ≡ y
 one_verdict words texts x y px py = one_plan (plan_of words) texts x y px py
 
 -- the answer is the verdict, where nothing outside failed and there was memory
-pub answer_is_verdict : (words : List (List ℕ)) (texts : List Text) (answer verdict : Fault) → IsCausedBy (IsVerdict words texts) answer → IsVerdict words texts verdict → (answer ≡ TextFault → ⊥) → (answer ≡ ShelfFault → ⊥) → (answer ≡ verdict) ⊎ (answer ≡ NoMemory)
+answer_is_verdict : (words : List (List ℕ)) (texts : List Text) (answer verdict : Fault) → IsCausedBy (IsVerdict words texts) answer → IsVerdict words texts verdict → (answer ≡ TextFault → ⊥) → (answer ≡ ShelfFault → ⊥) → (answer ≡ verdict) ⊎ (answer ≡ NoMemory)
 answer_is_verdict words texts TextFault verdict caused is no_text no_shelf = absurd (no_text refl)
 answer_is_verdict words texts ShelfFault verdict caused is no_text no_shelf = absurd (no_shelf refl)
 answer_is_verdict words texts NoMemory verdict caused is no_text no_shelf = inr refl
@@ -88,7 +88,7 @@ told_caused is_verdict fault told (inl same) caused = subst (IsCausedBy is_verdi
 told_caused is_verdict fault told (inr none) caused = subst (IsCausedBy is_verdict) (sym none.0) tt
 
 -- no refusal of the options is a text that can't be read
-pub option_not_text : (words : List (List ℕ)) (refused : Refused) → (refused ≢ Refused.NoMemory → plan_of words ≡ Err refused) → option_fault refused ≡ TextFault → ⊥
+option_not_text : (words : List (List ℕ)) (refused : Refused) → (refused ≢ Refused.NoMemory → plan_of words ≡ Err refused) → option_fault refused ≡ TextFault → ⊥
 option_not_text words (Refused.UnknownWord place) plan e = cc
 option_not_text words (Refused.BadNumber place) plan e = cc
 option_not_text words (Refused.Missing place) plan e = cc
@@ -98,3 +98,15 @@ option_not_text words (Refused.BadLine place) plan e = cc
 option_not_text words (Refused.OutOfProfile place) plan e = cc
 option_not_text words Refused.TextFault plan e = refusal_own words (plan (λ same. cc))
 option_not_text words Refused.NoMemory plan e = cc
+
+pub told_not_text : (words : List (List ℕ)) (refused : Refused) (fault told : Fault) → (refused ≢ Refused.NoMemory → plan_of words ≡ Err refused) → fault ≡ option_fault refused → IsToldAs fault told → told ≡ TextFault → ⊥
+told_not_text words refused fault told plan is (inl same) e = option_not_text words refused plan (sym is ∙ sym same ∙ e)
+told_not_text words refused fault told plan is (inr none) e = let clash = sym none.0 ∙ e in cc
+
+-- what is a cause for a plan's frame is one for the words that ask for it
+pub frame_caused : (words : List (List ℕ)) (plan : Plan) (texts : List Text) (fault : Fault) → plan_of words ≡ Ok plan → IsCausedBy (FrameVerdict (frame_of plan) texts) fault → IsCausedBy (IsVerdict words texts) fault
+frame_caused words plan texts fault is caused = subst (λ planned. IsCausedBy (PlanVerdict planned texts) fault) (sym is) caused
+
+pub told_is_verdict : (words : List (List ℕ)) (texts : List Text) (fault told verdict : Fault) → IsCausedBy (IsVerdict words texts) fault → IsToldAs fault told → IsVerdict words texts verdict → (fault ≡ TextFault → ⊥) → (fault ≡ ShelfFault → ⊥) → (told ≡ verdict) ⊎ (told ≡ NoMemory)
+told_is_verdict words texts fault told verdict caused (inl same) is no_text no_shelf = subst (λ f. (f ≡ verdict) ⊎ (f ≡ NoMemory)) (sym same) (answer_is_verdict words texts fault verdict caused is no_text no_shelf)
+told_is_verdict words texts fault told verdict caused (inr none) is no_text no_shelf = inr none.0

@@ -1,5 +1,5 @@
 // The top call: from words and texts to a picture file.
-ghost use Rattle.std.specs.Prelude.{◌≡◌, ◌⊎◌, ◌≤◌, ◌*◌, ◌<◌, ◌^◌, List, ℕ, Option, Some, Ok, length, map, take, string_bytes, IfOk, IfErr, OnOk, MatchBool};
+ghost use Rattle.std.specs.Prelude.{◌≡◌, ◌⊎◌, ◌≤◌, ◌*◌, List, [], Some, length, map, take, string_bytes, IfOk, IfErr, OnOk};
 ghost use Rattle.image_out.specs.Files.{file_of};
 ghost use Rattle.shelf.specs.Causes.{HasCause, Rose};
 ghost use Rattle.shelf.specs.Disk.{SameOthers, Tells};

@@ -1,4 +1,4 @@
-use Rattle.std.proofs.Common.{◌≡◌, ◌*◌, ◌++◌, length, take, drop, ap, ◌∙◌, subst, arith}
+use Rattle.std.proofs.Common.{◌≡◌, ◌*◌, length, take, drop, ap, ◌∙◌, subst, arith}
 use Rattle.povfix.specs.Grammar.{drawn_of}
 use Rattle.povfix.specs.Picture.{Shows}
 use Rattle.povfix.proofs.Pictures.{next_pixels}
