@@ -161,7 +161,10 @@ touch "$clone/crates.txt"
 rm -f "$CALLS.process"
 PATH=$here/kit:$bare RT_SLEEP=30 "$clone/povfix" a >/dev/null 2>"$here/messages" &
 launcher=$!
-while [ ! -s "$CALLS.process" ]; do sleep 0.1; done
+for _ in $(seq 100); do
+    [ ! -s "$CALLS.process" ] || break
+    sleep 0.1
+done
 kill "$launcher"
 status=0
 wait "$launcher" || status=$?
