@@ -2,6 +2,7 @@
 use Rattle.std.specs.Prelude.{ℕ, zero, suc, ◌+◌, ◌-◌, Bool, true, false, not, ◌&&◌, ◌||◌, ◌==◌, nat_lt, nat_eq, List, [], ◌∷◌, length, take, drop, codes, if◌then◌else◌, Option, Some, None, is_some, is_none}
 use Rattle.std.specs.List.{prefix_len, list_any, list_all, starts_with}
 use Rattle.scene_lexer.specs.Bytes.{is_white, is_digit, is_word}
+use Rattle.scene_lexer.specs.declared.sign.TheConstants.{EQUAL, LESS, GREATER, NOT, AT_MOST, AT_LEAST, NOT_EQUAL}
 
 -- how many digits a text begins with
 abbrev pub digit_count : List ℕ → ℕ
@@ -59,8 +60,8 @@ is_sign_byte b = list_any (λ sign. b == sign) (codes "{}()<>[],;:?.+-*/=!&|#")
 -- the codes of `<=`, `>=` and `!=`
 abbrev pub two_byte_sign : ℕ → ℕ → Option ℕ
 two_byte_sign b c =
-    if c == 61 then
-    (if b == 60 then Some 128 else (if b == 62 then Some 129 else (if b == 33 then Some 130 else None)))
+    if c == EQUAL then
+    (if b == LESS then Some AT_MOST else (if b == GREATER then Some AT_LEAST else (if b == NOT then Some NOT_EQUAL else None)))
     else None
 
 -- one byte, or two

@@ -1,5 +1,5 @@
 -- The tokens of a scene text, each with its place, or the first fault.
-use Rattle.std.specs.Prelude.{ℕ, zero, suc, ◌+◌, ◌-◌, ◌*◌, ◌^◌, false, ◌==◌, nat_lt, nat_le, nat_eq, List, [], ◌∷◌, ◌++◌, length, take, drop, ℤ, pos, fold, if◌then◌else◌, Result, Ok, Err, unsigned_abs, count_by, All, AllPairs, ◌≡◌, ◌<◌, ◌≤◌, ◌||◌, Option, Some, None, unwrap_or, Bool}
+use Rattle.std.specs.Prelude.{ℕ, zero, suc, ◌+◌, ◌-◌, ◌*◌, ◌^◌, true, false, ◌==◌, nat_lt, nat_le, nat_eq, List, [], ◌∷◌, ◌++◌, length, take, drop, ℤ, pos, fold, true, if◌then◌else◌, Result, Ok, Err, unsigned_abs, count_by, All, AllPairs, ◌≡◌, ◌<◌, ◌≤◌, ◌||◌, Option, Some, None, unwrap_or, Bool}
 use Rattle.std.specs.List.{starts_with}
 use Rattle.fix_math.specs.Numbers.{rnd, IsInRange}
 use Rattle.scene_lexer.specs.Bytes.{is_word}
@@ -11,6 +11,11 @@ use Rattle.scene_lexer.specs.declared.token.Kind.{Kind}
 use Rattle.scene_lexer.specs.declared.token.Kind.TheVariants.{Word, Number, Text, Sign}
 use Rattle.scene_lexer.specs.declared.token.LexFault.{LexFault}
 use Rattle.scene_lexer.specs.declared.token.LexFault.TheVariants.{BadByte, OpenComment, OpenString, LongName, NumberRange}
+
+-- only a text takes memory of its own
+abbrev pub holds_text : Kind → Bool
+holds_text (Text text) = true
+holds_text other = false
 
 -- the number that digits spell in base ten, after so much
 abbrev pub decimal_from : ℕ → List ℕ → ℕ

@@ -12,30 +12,19 @@ use crate::found::Found;
 use crate::scan::rest_of;
 use crate::{LexFault, Place};
 
-/// How many bytes the mark takes that the text begins with, or 1 for another byte.
-fn mark_length(text: &[u8]) -> usize
-    ensures { result ≡ 1 + mark_tail text.now }
-{
-    if text.starts_with(b"/*") || text.starts_with(b"*/") {
-        2
-    } else {
-        1
-    }
-}
-
 /// How many comments are open behind the mark or byte that the text begins with, where `depth` are open
-/// before.
-fn depth_after(text: &[u8], depth: u32) -> u32
+/// before, and how many bytes it takes.
+#[inline(always)]
+fn passed(text: &[u8], depth: u32) -> (u32, usize)
     requires open { 0 < depth }
     requires fits { depth + 1 < 2 ^ 32 }
-    ensures { result ≡ depth_after (depth - 1) text.now }
+    ensures depth { result.0 ≡ depth_after (depth - 1) text.now }
+    ensures length { result.1 ≡ 1 + mark_tail text.now }
 {
-    if text.starts_with(b"/*") {
-        depth + 1
-    } else if text.starts_with(b"*/") {
-        depth - 1
-    } else {
-        depth
+    match text {
+        [b'/', b'*', ..] => (depth + 1, 2),
+        [b'*', b'/', ..] => (depth - 1, 2),
+        _ => (depth, 1),
     }
 }
 
@@ -53,10 +42,10 @@ fn closed_comment(text: &[u8]) -> Option<Found>
         if at >= text.len() {
             return None;
         }
-        let rest = rest_of(text, at);
-        depth = depth_after(rest, depth);
+        let (open, length) = passed(rest_of(text, at), depth);
+        depth = open;
         lines += line_end(text[at]);
-        at += mark_length(rest);
+        at += length;
     }
     Some(Found {
         kind: None,

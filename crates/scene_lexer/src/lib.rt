@@ -9,6 +9,7 @@ mod name;
 mod number;
 mod read;
 mod scan;
+pub mod sign;
 mod text;
 mod token;
 

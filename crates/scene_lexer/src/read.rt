@@ -13,7 +13,7 @@ use crate::found::Found;
 use crate::number::{number_length, number_of};
 use crate::scan::word_length;
 use crate::text::read_text;
-use crate::{Kind, LexFault, Name, Place};
+use crate::{Kind, LexFault, Name, Place, sign};
 use std::alloc::Global;
 
 fn is_sign_byte(byte: u8) -> bool
@@ -60,9 +60,9 @@ fn two_byte_sign(text: &[u8]) -> Option<u8>
     ensures { result ≡ two_byte_sign_of text.now }
 {
     match text {
-        [b'<', b'=', ..] => Some(128),
-        [b'>', b'=', ..] => Some(129),
-        [b'!', b'=', ..] => Some(130),
+        [b'<', b'=', ..] => Some(sign::AT_MOST),
+        [b'>', b'=', ..] => Some(sign::AT_LEAST),
+        [b'!', b'=', ..] => Some(sign::NOT_EQUAL),
         _ => None,
     }
 }
@@ -85,10 +85,10 @@ fn read_sign(text: &[u8], place: Place) -> Result<Found, LexFault>
             lines: 0,
         });
     }
-    let sign = text[0];
-    if is_sign_byte(sign) {
+    let first = text[0];
+    if is_sign_byte(first) {
         Ok(Found {
-            kind: Some(Kind::Sign(sign)),
+            kind: Some(Kind::Sign(first)),
             length: 1,
             lines: 0,
         })

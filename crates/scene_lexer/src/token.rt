@@ -1,5 +1,6 @@
 // Tokens and their places.
-ghost use Rattle.std.specs.Prelude.{◌≡◌, IfOk};
+ghost use Rattle.std.specs.Prelude.{◌≡◌, IfOk, OnErr, IsTrue};
+ghost use Rattle.scene_lexer.specs.Tokens.{holds_text};
 
 use crate::Name;
 use fix_math::{Fix, Str};
@@ -25,7 +26,7 @@ pub enum Kind {
     Number(Fix),
     /// The bytes between double quotes, with their escapes resolved.
     Text(Str),
-    /// A sign of one byte by that byte; `<=` is 128, `>=` is 129, `!=` is 130.
+    /// A sign by its code, as the constants of `sign` name it.
     Sign(u8),
 }
 
@@ -39,7 +40,8 @@ pub struct Token {
 
 impl Kind {
     fn copy(&self, alloc: Global) -> Result<Kind, AllocError>
-        ensures { IfOk result (λ copy. copy ≡ self.now) }
+        ensures copy { IfOk result (λ copy. copy ≡ self.now) }
+        ensures memory { OnErr result (IsTrue (holds_text self.now)) }
     {
         Ok(match self {
             Kind::Word(name) => Kind::Word(name.copy()),
@@ -53,7 +55,8 @@ impl Kind {
 impl Token {
     /// The same token again. Only a text needs memory.
     pub fn copy(&self, alloc: Global) -> Result<Token, AllocError>
-        ensures { IfOk result (λ copy. copy ≡ self.now) }
+        ensures copy { IfOk result (λ copy. copy ≡ self.now) }
+        ensures memory { OnErr result (IsTrue (holds_text self.now.kind)) }
     {
         Ok(Token {
             kind: self.kind.copy(alloc)?,

@@ -11,8 +11,8 @@ returns-then-at-text c = comment_out c.args.text.now c.comment.at c.comment.dept
 
 pub comment-preserved : goal.comment-preserved
 comment-preserved c =
-    comment_more c.args.text.now c.rest_of-rest.result.now c.comment.at c.comment.depth c.comment.lines c.depth_after-depth.result c.mark_length-at.result c.line_end-lines.result
-    c.comment.invariant (omega arith) (omega arith) c.rest_of-rest.ensures c.depth_after-depth.ensures c.mark_length-at.ensures c.line_end-lines.ensures
+    comment_more c.args.text.now c.rest_of.result.now c.comment.at c.comment.depth c.comment.lines c.passed-open.result.0 c.passed-open.result.1 c.line_end-lines.result
+    c.comment.invariant (omega arith) (omega arith) c.rest_of.ensures c.passed-open.ensures.depth c.passed-open.ensures.length c.line_end-lines.ensures
 
 pub returns : goal.returns
 returns c = comment_end c.args.text.now c.comment.at c.comment.depth c.comment.lines c.comment.invariant (omega arith)
