@@ -1,5 +1,5 @@
 -- One turn of the lexer: a white byte, a token or a fault.
-use Rattle.std.proofs.Common.{◌≡◌, ℕ, zero, suc, ◌+◌, ◌-◌, ◌<◌, ◌≤◌, Bool, true, false, cond, ◌&&◌, ◌==◌, List, [], ◌∷◌, ◌++◌, length, take, drop, refl, sym, ap, ◌∙◌, subst, arith, inl, inr, Result, Ok, Err, slice_index, Option, Some, None, is_ok, OnOk}
+use Rattle.std.proofs.Common.{◌≡◌, ℕ, zero, suc, ◌+◌, ◌-◌, ◌<◌, ◌≤◌, Bool, true, false, cond, ◌&&◌, ◌==◌, List, [], ◌∷◌, ◌++◌, length, take, drop, refl, sym, ap, ◌∙◌, subst, arith, inl, inr, Result, Ok, Err, slice_index, Option, Some, None, is_ok, OnOk, OnErr, is_some, ◌≢◌}
 use Rattle.std.proofs.lemmas.Bool.{false≢true, cases_Bool, eqb-true, eq-eqb}
 use Rattle.std.proofs.lemmas.List.{length-take-le, length-drop, drop-drop, drop_more, drop_all, append-nil}
 use Rattle.std.proofs.lemmas.List.Sums.{count_by-le-length}
@@ -15,7 +15,7 @@ use Rattle.scene_lexer.specs.declared.token.Token.{Token}
 use Rattle.scene_lexer.specs.declared.token.Kind.{Kind}
 use Rattle.scene_lexer.specs.declared.token.LexFault.{LexFault}
 use Rattle.scene_lexer.proofs.LongestLemmas.{longest-is, longest-le, longest-same}
-use Rattle.scene_lexer.proofs.PieceLemmas.{piece-white}
+use Rattle.scene_lexer.proofs.PieceLemmas.{piece-white, gap-false}
 use Rattle.scene_lexer.proofs.TokensLemmas.{place_at, tokens-skip, tokens-piece, joined-gap, joined-more, joined-fault, feeds-cons}
 
 -- the tokens so far and those of the rest are the text's
@@ -233,3 +233,55 @@ ascend_add at next tokens place (Some kind) h from below =
 pub ok-then : {A E : Type 0} (r : Result A E) (P : Type 0) → is_ok r ≡ true → OnOk r P → P
 ok-then (Ok x) P e h = h
 ok-then (Err x) P e h = absurd (false≢true e)
+
+pub err-then : {A E : Type 0} (r : Result A E) (P : Type 0) → is_ok r ≡ false → OnErr r P → P
+err-then (Ok x) P e h = absurd (false≢true (sym e))
+err-then (Err x) P e h = h
+
+-- ---- what needs memory: a text that isn't gaps alone
+
+token_list-some : (place : Place) (to : ℕ) (kind : Result Kind LexFault) → token_list place to kind ≢ Ok []
+token_list-some place to (Ok kind) is = absurd (cc is)
+token_list-some place to (Err fault) is = absurd (cc is)
+
+-- a text or an open text isn't a gap
+pub text_piece : (place : Place) (s : List ℕ) → slice_index s 0 ≡ 34 → piece_tokens place (front_of s) ≢ Ok []
+unfolding piece_tokens front_of is_gap is_white_space is_line_comment is_block_comment
+text_piece place [] quote is = absurd (omega (arith, quote))
+text_piece place (b ∷ s) quote is = by (longest is_piece (length (b ∷ s)) (b ∷ s)) is
+  where
+    by : (n : ℕ) → piece_tokens place (take n (b ∷ s)) ≢ Ok []
+    by zero none = absurd (token_list-some place (place.at + 0) (kind_of place []) none)
+    by (suc n) none =
+        let gap : is_gap (b ∷ take n s) ≡ false = subst (λ k. is_gap (k ∷ take n s) ≡ false) (sym quote) (gap-false 34 (take n s) refl refl) in
+        token_list-some place (place.at + length (b ∷ take n s)) (kind_of place (b ∷ take n s))
+        (sym (ap (λ v. cond v (Ok []) (token_list place (place.at + length (b ∷ take n s)) (kind_of place (b ∷ take n s)))) gap) ∙ none)
+
+-- a piece with a token isn't a gap
+pub kind_piece : (place : Place) (s : List ℕ) (found : Found) → IsFound place s found → is_some found.kind ≡ true → piece_tokens place (front_of s) ≢ Ok []
+kind_piece place s found h some none = by found.kind some (sym h.tokens_are ∙ none)
+  where
+    by : (kind : Option Kind) → is_some kind ≡ true → (let r : Result (List Token) LexFault = Ok (tokens_at place (place.at + found.length) kind) in r) ≢ Ok []
+    by None some is = absurd (false≢true some)
+    by (Some kind) some is = absurd (cc is)
+
+joined-empty : (tokens : List Token) (piece rest : Result (List Token) LexFault) → joined (Ok tokens) (joined piece rest) ≡ Ok [] → piece ≡ Ok []
+unfolding joined
+joined-empty tokens (Err fault) rest is = absurd (cc is)
+joined-empty tokens (Ok piece) (Err fault) is = absurd (cc is)
+joined-empty [] (Ok []) (Ok more) is = refl
+joined-empty [] (Ok (token ∷ piece)) (Ok more) is = absurd (cc is)
+joined-empty (token ∷ tokens) (Ok piece) (Ok more) is = absurd (cc is)
+
+pub token_read : (file at line : ℕ) (tokens : List Token) (text : List ℕ) → at < length text → piece_tokens (place_at file at line) (front_of (drop at text)) ≢ Ok [] →
+    IsRead file at line tokens text → tokens_of file text ≢ Ok []
+unfolding tokens_from
+token_read file at line tokens text below some read none =
+    let b = slice_index text at in
+    let s = drop (at + 1) text in
+    let more = drop_more text at 0 below in
+    let rest = tokens_from file (length (front_of (b ∷ s)) - 1) (at + 1) (line_after line b) s in
+    let empty : piece_tokens (place_at file at line) (front_of (b ∷ s)) ≡ Ok [] =
+    joined-empty tokens (piece_tokens (place_at file at line) (front_of (b ∷ s))) rest
+    (sym (ap (λ t. joined (Ok tokens) (tokens_from file 0 at line t)) more) ∙ read ∙ none) in
+    some (ap (λ t. piece_tokens (place_at file at line) (front_of t)) more ∙ empty)

@@ -1,11 +1,12 @@
 // Comments: to the end of the line, and nested ones.
-ghost use Rattle.std.specs.Prelude.{◌≡◌, ◌+◌, ◌-◌, ◌≤◌, ◌<◌, ◌^◌, length, drop, IsTrue, IfOk, IfErr};
+ghost use Rattle.std.specs.Prelude.{◌≡◌, ◌≢◌, ◌+◌, ◌-◌, ◌≤◌, ◌<◌, ◌^◌, length, drop, IsTrue, IfOk, IfErr};
 ghost use Rattle.std.specs.Prelude.{MatchOption, None};
 ghost use Rattle.scene_lexer.specs.Spellings.{opens_comment, opens_line_comment, is_in_line};
 ghost use Rattle.scene_lexer.specs.Spellings.{mark_tail, depth_after, comment_rest};
 ghost use Rattle.std.specs.List.{prefix_len};
 ghost use Rattle.scene_lexer.specs.Tokens.{piece_tokens, front_of};
 ghost use Rattle.scene_lexer.specs.Steps.{IsClosedComment, IsFound};
+ghost use Rattle.scene_lexer.specs.declared.token.LexFault.TheVariants.{NoMemory};
 
 use crate::bytes::line_end;
 use crate::found::Found;
@@ -60,6 +61,7 @@ pub fn read_comment(text: &[u8], place: Place) -> Result<Found, LexFault>
     requires size { length text.now ≤ 2 ^ 24 }
     ensures found { IfOk result (IsFound place text.now) }
     ensures fault { IfErr result (λ f. piece_tokens place (front_of text.now) ≡ Err f) }
+    ensures memory { IfErr result (λ f. f ≢ NoMemory) }
 {
     match closed_comment(text) {
         Some(found) => Ok(found),

@@ -1,5 +1,5 @@
 // The tokens of a text.
-ghost use Rattle.std.specs.Prelude.{◌≡◌, ◌≢◌, ◌≤◌, ◌<◌, ◌^◌, length, ◌++◌, IfOk, IfErr, OnOk, Ok, Err};
+ghost use Rattle.std.specs.Prelude.{◌≡◌, ◌≢◌, ◌≤◌, ◌<◌, ◌^◌, length, ◌++◌, IfOk, IfErr, OnOk, OnErr, Ok, Err, [], is_some, true};
 ghost use Rattle.scene_lexer.specs.Tokens.{tokens_of, tokens_at, mark_length, Ascend};
 ghost use Rattle.scene_lexer.specs.declared.token.LexFault.TheVariants.{NoMemory};
 
@@ -27,7 +27,8 @@ fn add_token(
     place: Place,
     to: u32,
 ) -> Result<(), AllocError>
-    ensures { OnOk result (tokens.new.items ≡ tokens.old.items ++ tokens_at place to kind) }
+    ensures added { OnOk result (tokens.new.items ≡ tokens.old.items ++ tokens_at place to kind) }
+    ensures memory { OnErr result (is_some kind ≡ true) }
 {
     if let Some(kind) = kind {
         tokens.push(Token { kind, place, to })?;
@@ -36,11 +37,12 @@ fn add_token(
 }
 
 /// The tokens of the text with this number, or the first fault by place.
-/// Bytes are counted from 0 with a UTF-8 mark at the start, lines from 1.
+/// Bytes are counted from 0 with a UTF-8 mark at the start, lines from 1. A text of gaps alone needs no memory.
 pub fn lex(alloc: Global, file: u32, text: &[u8]) -> Result<Vec<Token>, LexFault>
     requires { length text.now ≤ 2 ^ 24 }
     ensures tokens { IfOk result (λ found. tokens_of file text.now ≡ Ok found.items) }
     ensures fault { IfErr result (λ f. f ≢ LexFault.NoMemory → tokens_of file text.now ≡ Err f) }
+    ensures memory { IfErr result (λ f. f ≡ LexFault.NoMemory → tokens_of file text.now ≢ Ok []) }
     ensures spans { IfOk result (λ found. Ascend (length text.now) found.items) }
 {
     let mut tokens = Vec::new(alloc);

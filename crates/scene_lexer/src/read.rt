@@ -26,6 +26,7 @@ fn read_word(text: &[u8], place: Place) -> Result<Found, LexFault>
     requires letter { IsTrue (is_letter (slice_index text.now 0)) }
     ensures found { IfOk result (IsFound place text.now) }
     ensures fault { IfErr result (λ f. piece_tokens place (front_of text.now) ≡ Err f) }
+    ensures memory { IfErr result (λ f. f ≢ LexFault.NoMemory) }
 {
     let length = word_length(text);
     match Name::new(&text[..length]) {
@@ -44,6 +45,7 @@ fn read_number(text: &[u8], bytes: usize, place: Place) -> Result<Found, LexFaul
     requires some { 0 < bytes }
     ensures found { IfOk result (IsFound place text.now) }
     ensures fault { IfErr result (λ f. piece_tokens place (front_of text.now) ≡ Err f) }
+    ensures memory { IfErr result (λ f. f ≢ LexFault.NoMemory) }
 {
     match number_of(&text[..bytes], place) {
         Ok(kind) => Ok(Found {
@@ -77,6 +79,7 @@ fn read_sign(text: &[u8], place: Place) -> Result<Found, LexFault>
     requires comment { IsFalse (opens_comment text.now) }
     ensures found { IfOk result (IsFound place text.now) }
     ensures fault { IfErr result (λ f. piece_tokens place (front_of text.now) ≡ Err f) }
+    ensures memory { IfErr result (λ f. f ≢ LexFault.NoMemory) }
 {
     if let Some(code) = two_byte_sign(text) {
         return Ok(Found {
@@ -105,6 +108,7 @@ pub fn read_piece(alloc: Global, text: &[u8], place: Place) -> Result<Found, Lex
     ensures found { IfOk result (IsFound place text.now) }
     ensures fault { IfErr result
         (λ f. f ≢ LexFault.NoMemory → piece_tokens place (front_of text.now) ≡ Err f) }
+    ensures memory { IfErr result (λ f. f ≡ LexFault.NoMemory → slice_index text.now 0 ≡ 34) }
 {
     let first = text[0];
     if is_letter(first) {

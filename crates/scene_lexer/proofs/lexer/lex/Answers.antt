@@ -3,7 +3,7 @@ use Rattle.std.proofs.Common.{◌≡◌, ◌+◌, ◌≤◌, ◌<◌, length, dr
 use Rattle.scene_lexer.specs.Tokens.{piece_tokens, front_of, line_after, tokens_at, Ascend}
 use Rattle.scene_lexer.specs.Steps.{IsFound, found_tokens}
 use Rattle.scene_lexer.proofs.TokensLemmas.{place_at}
-use Rattle.scene_lexer.proofs.LexLemmas.{IsRead, start_read, start_within, white_read, found_within, piece_read, fault_read, end_read, ascend_none, ascend_add, ascend_more, line_feed, no_line_feed, ok-then}
+use Rattle.scene_lexer.proofs.LexLemmas.{IsRead, start_read, start_within, white_read, found_within, piece_read, fault_read, end_read, ascend_none, ascend_add, ascend_more, line_feed, no_line_feed, ok-then, err-then, token_read, text_piece, kind_piece}
 use Rattle.scene_lexer.proofs.lexer.lex.Goals as goal
 use Rattle.scene_lexer.proofs.lexer.lex.Goals.{then-byte-eq10, else-byte-eq10}
 
@@ -51,7 +51,7 @@ bytes-preserved c =
     let is_found : IsFound place (drop c.bytes.at c.args.text.now) found = subst (λ s. IsFound place s found) c.rest_of.ensures c.in-Ok.ensures.found in
     let inside = found_within place c.bytes.at c.args.text.now found (omega arith) is_found in
     let added : c.add_token.new.tokens.items ≡ c.bytes.tokens.items ++ found_tokens place found =
-    ok-then c.add_token.result _ (c.is_err.ensures.negation ∙ ap not c.if-is_err.false) c.add_token.ensures in
+    ok-then c.add_token.result _ (c.is_err.ensures.negation ∙ ap not c.if-is_err.false) c.add_token.ensures.added in
     record {
       read = subst (λ ts. IsRead c.args.file (c.bytes.at + found.length) (c.bytes.line + found.lines) ts c.args.text.now) (sym added)
           (piece_read c.args.file c.bytes.at c.bytes.line c.bytes.tokens.items c.args.text.now found (omega arith) is_found c.bytes.invariant.read);
@@ -65,6 +65,19 @@ pub returns-in-Err-clause-fault : goal.returns-in-Err-clause-fault
 returns-in-Err-clause-fault c = λ some.
     fault_read c.args.file c.bytes.at c.bytes.line c.bytes.tokens.items c.args.text.now c.in-Err.fault (omega arith)
     (subst (λ s. piece_tokens (place_at c.args.file c.bytes.at c.bytes.line) (front_of s) ≡ Err c.in-Err.fault) c.rest_of.ensures (c.in-Err.ensures.fault some)) c.bytes.invariant.read
+
+pub returns-in-Err-clause-memory : goal.returns-in-Err-clause-memory
+returns-in-Err-clause-memory c = λ want.
+    token_read c.args.file c.bytes.at c.bytes.line c.bytes.tokens.items c.args.text.now (omega arith)
+    (text_piece (place_at c.args.file c.bytes.at c.bytes.line) (drop c.bytes.at c.args.text.now) (subst (λ s. slice_index s 0 ≡ 34) c.rest_of.ensures (c.in-Err.ensures.memory want))) c.bytes.invariant.read
+
+pub returns-then-is_err-clause-memory : goal.returns-then-is_err-clause-memory
+returns-then-is_err-clause-memory c = λ want.
+    let place = place_at c.args.file c.bytes.at c.bytes.line in
+    let found = c.in-Ok.found in
+    let is_found : IsFound place (drop c.bytes.at c.args.text.now) found = subst (λ s. IsFound place s found) c.rest_of.ensures c.in-Ok.ensures.found in
+    token_read c.args.file c.bytes.at c.bytes.line c.bytes.tokens.items c.args.text.now (omega arith)
+    (kind_piece place (drop c.bytes.at c.args.text.now) found is_found (err-then c.add_token.result _ (c.is_err.ensures.negation ∙ ap not c.if-is_err.true) c.add_token.ensures.memory)) c.bytes.invariant.read
 
 pub returns-clause-tokens : goal.returns-clause-tokens
 returns-clause-tokens c = end_read c.args.file c.bytes.at c.bytes.line c.bytes.tokens.items c.args.text.now (omega arith) c.bytes.invariant.read
