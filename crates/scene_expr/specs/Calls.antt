@@ -11,8 +11,8 @@ use Rattle.scene_expr.specs.declared.words.Call.{Call}
 use Rattle.scene_expr.specs.declared.words.Call.TheVariants.{Abs, Ceil, Floor, Int, Sqrt, Sin, Cos, Tan, Radians, Degrees, Mod, Div, Pow, Min, Max, Vdot, Vcross, Vrotate, Vlength, Vnormalize, Strlen, Concat, Chr, Str}
 use Rattle.scene_expr.specs.Values.{answer, float}
 use Rattle.scene_expr.specs.Numbers.{size_of, floor_of, ceil_of, cut, root_of, sine, cosine, tangent, radians_of, degrees_of, whole_quotient, remainder, power_to, natural_of}
-use Rattle.scene_expr.specs.Vectors.{dot_of, cross_of, rotated, length_of}
-use Rattle.scene_expr.specs.Texts.{length_value, text_value, byte_value, str_value}
+use Rattle.scene_expr.specs.Vectors.{dot_value, cross_value, rotated, length_value}
+use Rattle.scene_expr.specs.Texts.{size_value, text_value, byte_value, str_value}
 
 -- ---- kinds of arguments: any other kind or number of them is refused
 
@@ -86,12 +86,12 @@ called Div values = on_two_floats (λ a b. float (whole_quotient a b)) values
 called Pow values = on_two_floats (λ a b. float (power_to a b)) values
 called Min values = on_floats int_min values
 called Max values = on_floats int_max values
-called Vdot values = on_two_vectors (λ v w. float (dot_of v w)) values
-called Vcross values = on_two_vectors (λ v w. vector_value (cross_of v w)) values
+called Vdot values = on_two_vectors (λ v w. float (dot_value v w)) values
+called Vcross values = on_two_vectors (λ v w. vector_value (cross_value v w)) values
 called Vrotate values = on_two_vectors (λ v w. vector_value (rotated v w)) values
-called Vlength values = on_vector (λ v. float (length_of v)) values
+called Vlength values = on_vector (λ v. float (length_value v)) values
 called Vnormalize values = on_vector (λ v. Ok (Value.Vector (unit_of v))) values
-called Strlen values = on_text length_value values
+called Strlen values = on_text size_value values
 called Concat values = on_texts text_value (joined values)
 called Chr values = on_float (λ a. byte_value (natural_of 255 a)) values
 called Str values = on_three_floats str_value values

@@ -75,12 +75,13 @@ floats_of [] = Some []
 floats_of (Value.Float a ∷ values) = with_first a (floats_of values)
 floats_of (_ ∷ values) = None
 
--- three are a vector; four or five are a colour, whose last is 0 where it is missing
+-- three are a vector; four or five are a colour, whose last is 0 where it is missing; no other number is anything
 abbrev pub group_of : Option (List ℤ) → Result Value Trouble
 group_of None = Err Trouble.Kind
 group_of (Some (x ∷ y ∷ z ∷ [])) = Ok (Value.Vector (record { x = x; y = y; z = z }))
 group_of (Some (red ∷ green ∷ blue ∷ filter ∷ [])) = Ok (Value.Color (red ∷ green ∷ blue ∷ filter ∷ pos 0 ∷ []))
-group_of (Some numbers) = Ok (Value.Color numbers)
+group_of (Some (red ∷ green ∷ blue ∷ filter ∷ transmit ∷ [])) = Ok (Value.Color (red ∷ green ∷ blue ∷ filter ∷ transmit ∷ []))
+group_of (Some numbers) = Err Trouble.Kind
 
 abbrev pub grouped : List Value → Result Value Trouble
 grouped values = group_of (floats_of values)

@@ -2,6 +2,7 @@
 use Rattle.std.specs.Prelude.{ℕ, zero, suc, ◌+◌, ℤ, ◌≡◌, Bool, true, false, MatchBool, ◌&&◌, nat_eq, nat_lt, List, [], ◌∷◌, ◌++◌, length, Option, Some, None, Result, Ok, Err, if◌then◌else◌}
 use Rattle.scene_lexer.specs.declared.token.Place.{Place}
 use Rattle.scene_lexer.specs.declared.token.Token.{Token}
+use Rattle.scene_lexer.specs.declared.sign.TheConstants.{OPEN_BRACKET, CLOSE_BRACKET, GREATER, COMMA, COLON, QUESTION, DOT}
 use Rattle.scene_expr.specs.declared.value.ExprFault.{ExprFault}
 use Rattle.scene_expr.specs.declared.value.Level.{Level}
 use Rattle.scene_expr.specs.declared.value.Settings.{Settings}
@@ -82,7 +83,7 @@ is_below count (Some most) = nat_lt count most
 -- whether a comma and a further part follow; one must where there are too few
 abbrev pub goes_on : Arity → ℕ → List Token → ℕ → Result Bool ExprFault
 goes_on arity count tokens at =
-    if is_below count arity.most && nat_eq (sign_at tokens at) 44 then Ok true
+    if is_below count arity.most && nat_eq (sign_at tokens at) COMMA then Ok true
     else (if nat_lt count arity.least then Err (ExprFault.Expected (place_at tokens at)) else Ok false)
 
 -- the parts from a place on, behind those that stand before
@@ -113,9 +114,9 @@ with_component tokens left (Some part) = made (component part left.value) (place
 
 -- a value and the dots behind it
 pub data IsDotted (tokens : List Token) : Read → Outcome → Type 0 where
-  ends : (left : Read) → nat_eq (sign_at tokens left.next) 46 ≡ false → IsDotted tokens left (Ok left)
-  stops : (left : Read) (f : ExprFault) → nat_eq (sign_at tokens left.next) 46 ≡ true → with_component tokens left (component_at tokens (left.next + 1)) ≡ Err f → IsDotted tokens left (Err f)
-  further : (left read : Read) (r : Outcome) → nat_eq (sign_at tokens left.next) 46 ≡ true → with_component tokens left (component_at tokens (left.next + 1)) ≡ Ok read → IsDotted tokens read r → IsDotted tokens left r
+  ends : (left : Read) → nat_eq (sign_at tokens left.next) DOT ≡ false → IsDotted tokens left (Ok left)
+  stops : (left : Read) (f : ExprFault) → nat_eq (sign_at tokens left.next) DOT ≡ true → with_component tokens left (component_at tokens (left.next + 1)) ≡ Err f → IsDotted tokens left (Err f)
+  further : (left read : Read) (r : Outcome) → nat_eq (sign_at tokens left.next) DOT ≡ true → with_component tokens left (component_at tokens (left.next + 1)) ≡ Ok read → IsDotted tokens read r → IsDotted tokens left r
 
 -- ---- what is read one depth further in
 
@@ -130,13 +131,13 @@ abbrev pub IsOpening : List Token → (Inner → Reading) → Opener → Reading
 IsOpening tokens inside (Opener.Prefix sign) at r =
     IsThen Read Read ExprFault (inside Factor (at + 1)) (λ read. Is (made (prefixed sign read.value) (place_at tokens at) read.next)) r
 IsOpening tokens inside Opener.Bracket at r =
-    IsThen Read Read ExprFault (inside Choice (at + 1)) (λ read. IsThen ℕ Read ExprFault (Is (passed 41 tokens read.next)) (λ next. Is (Ok (record { value = read.value; next = next })))) r
+    IsThen Read Read ExprFault (inside Choice (at + 1)) (λ read. IsThen ℕ Read ExprFault (Is (passed CLOSE_BRACKET tokens read.next)) (λ next. Is (Ok (record { value = read.value; next = next })))) r
 IsOpening tokens inside Opener.Angle at r =
-    IsThen Row Read ExprFault (IsRow tokens (inside Sum) angle_arity [] (at + 1)) (λ row. IsThen ℕ Read ExprFault (Is (passed 62 tokens row.next)) (λ next. Is (made (grouped row.values) (place_at tokens at) next))) r
+    IsThen Row Read ExprFault (IsRow tokens (inside Sum) angle_arity [] (at + 1)) (λ row. IsThen ℕ Read ExprFault (Is (passed GREATER tokens row.next)) (λ next. Is (made (grouped row.values) (place_at tokens at) next))) r
 IsOpening tokens inside (Opener.Call call) at r =
-    IsThen ℕ Read ExprFault (Is (passed 40 tokens (at + 1))) (λ start.
+    IsThen ℕ Read ExprFault (Is (passed OPEN_BRACKET tokens (at + 1))) (λ start.
     IsThen Row Read ExprFault (IsRow tokens (inside Choice) (arity_of call) [] start) (λ row.
-    IsThen ℕ Read ExprFault (Is (passed 41 tokens row.next)) (λ next. Is (made (called call row.values) (place_at tokens at) next)))) r
+    IsThen ℕ Read ExprFault (Is (passed CLOSE_BRACKET tokens row.next)) (λ next. Is (made (called call row.values) (place_at tokens at) next)))) r
 IsOpening tokens inside Opener.Colour at r =
     IsThen Read Read ExprFault (inside Factor (at + 1)) (λ read. Is (made (as_colour read.value) (place_at tokens at) read.next)) r
 IsOpening tokens inside (Opener.Form form) at r =
@@ -147,7 +148,7 @@ IsOpening tokens inside Opener.Channels at r = IsChannels tokens (inside Sum) bl
 abbrev pub IsBranched : List Token → Reading → Read → Outcome → Type 0
 IsBranched tokens choice condition r =
     IsThen Read Read ExprFault (choice (condition.next + 1)) (λ first.
-    IsThen ℕ Read ExprFault (Is (passed 58 tokens first.next)) (λ start.
+    IsThen ℕ Read ExprFault (Is (passed COLON tokens first.next)) (λ start.
     IsThen Read Read ExprFault (choice start) (λ second. Is (made (chosen condition.value first.value second.value) (place_at tokens condition.next) second.next)))) r
 
 -- ---- the levels; `full` says that no depth is left
@@ -182,7 +183,7 @@ IsConnection tokens set full inside = IsChain tokens connective (IsComparison to
 -- behind the condition: a question mark opens a depth for what follows it
 abbrev pub IsAsked : List Token → Bool → (Inner → Reading) → Read → Outcome → Type 0
 IsAsked tokens full inside condition r =
-    MatchBool (nat_eq (sign_at tokens condition.next) 63) (IsOpened full (place_at tokens condition.next) (IsBranched tokens (inside Choice) condition) r) (r ≡ Ok condition)
+    MatchBool (nat_eq (sign_at tokens condition.next) QUESTION) (IsOpened full (place_at tokens condition.next) (IsBranched tokens (inside Choice) condition) r) (r ≡ Ok condition)
 
 abbrev pub IsChoice : List Token → Settings → Bool → (Inner → Reading) → Reading
 IsChoice tokens set full inside at r =

@@ -3,6 +3,7 @@ use Rattle.std.specs.Prelude.{ℕ, ◌+◌, List, [], ◌-◌, length, nat_eq, s
 use Rattle.scene_lexer.specs.declared.token.Kind.{Kind}
 use Rattle.scene_lexer.specs.declared.token.Place.{Place}
 use Rattle.scene_lexer.specs.declared.token.Token.{Token}
+use Rattle.scene_lexer.specs.declared.sign.TheConstants.{OPEN_BRACKET, LESS}
 use Rattle.scene_expr.specs.declared.value.ExprFault.{ExprFault}
 use Rattle.scene_expr.specs.declared.heads.Head.{Head}
 use Rattle.scene_expr.specs.declared.heads.Opener.{Opener}
@@ -73,8 +74,8 @@ prefix_head (Some sign) = Head.Opener (Opener.Prefix sign)
 
 abbrev pub sign_head : ℕ → Head
 sign_head sign =
-    if nat_eq sign 40 then Head.Opener Opener.Bracket else
-    (if nat_eq sign 60 then Head.Opener Opener.Angle else prefix_head (prefix sign))
+    if nat_eq sign OPEN_BRACKET then Head.Opener Opener.Bracket else
+    (if nat_eq sign LESS then Head.Opener Opener.Angle else prefix_head (prefix sign))
 
 abbrev pub word_head : Option Word → Head
 word_head None = Head.Unknown

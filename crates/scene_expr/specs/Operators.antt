@@ -6,6 +6,7 @@ use Rattle.fix_math.specs.Numbers.{product_of}
 use Rattle.fix_math.specs.Outcomes.{in_range, divided}
 use Rattle.fix_math.specs.declared.fix.NumFault.{NumFault}
 use Rattle.fix_math.specs.declared.fix.V3.{V3}
+use Rattle.scene_lexer.specs.declared.sign.TheConstants.{AND, AT_LEAST, AT_MOST, EQUAL, GREATER, LESS, MINUS, NOT, NOT_EQUAL, OR, OVER, PLUS, TIMES}
 use Rattle.scene_expr.specs.declared.value.Value.{Value}
 use Rattle.scene_expr.specs.declared.value.Trouble.{Trouble}
 use Rattle.scene_expr.specs.declared.operators.Prefix.{Prefix}
@@ -138,30 +139,29 @@ chosen condition first second = Err Trouble.Kind
 
 abbrev pub sum_operator : ℕ → Option Operator
 sum_operator sign =
-    if nat_eq sign 43 then Some (Operator.Arithmetic Add) else
-    (if nat_eq sign 45 then Some (Operator.Arithmetic Subtract) else None)
+    if nat_eq sign PLUS then Some (Operator.Arithmetic Add) else
+    (if nat_eq sign MINUS then Some (Operator.Arithmetic Subtract) else None)
 
 abbrev pub term_operator : ℕ → Option Operator
 term_operator sign =
-    if nat_eq sign 42 then Some (Operator.Arithmetic Multiply) else
-    (if nat_eq sign 47 then Some (Operator.Arithmetic Divide) else None)
+    if nat_eq sign TIMES then Some (Operator.Arithmetic Multiply) else
+    (if nat_eq sign OVER then Some (Operator.Arithmetic Divide) else None)
 
--- `<=` is 128, `>=` is 129, `!=` is 130
 abbrev pub comparison : ℕ → Option Operator
 comparison sign =
-    if nat_eq sign 61 then Some (Operator.Comparison Equal) else
-    (if nat_eq sign 130 then Some (Operator.Comparison NotEqual) else
-    (if nat_eq sign 60 then Some (Operator.Comparison Less) else
-    (if nat_eq sign 128 then Some (Operator.Comparison AtMost) else
-    (if nat_eq sign 62 then Some (Operator.Comparison Greater) else
-    (if nat_eq sign 129 then Some (Operator.Comparison AtLeast) else None)))))
+    if nat_eq sign EQUAL then Some (Operator.Comparison Equal) else
+    (if nat_eq sign NOT_EQUAL then Some (Operator.Comparison NotEqual) else
+    (if nat_eq sign LESS then Some (Operator.Comparison Less) else
+    (if nat_eq sign AT_MOST then Some (Operator.Comparison AtMost) else
+    (if nat_eq sign GREATER then Some (Operator.Comparison Greater) else
+    (if nat_eq sign AT_LEAST then Some (Operator.Comparison AtLeast) else None)))))
 
 abbrev pub connective : ℕ → Option Operator
 connective sign =
-    if nat_eq sign 38 then Some (Operator.Connective And) else
-    (if nat_eq sign 124 then Some (Operator.Connective Or) else None)
+    if nat_eq sign AND then Some (Operator.Connective And) else
+    (if nat_eq sign OR then Some (Operator.Connective Or) else None)
 
 abbrev pub prefix : ℕ → Option Prefix
 prefix sign =
-    if nat_eq sign 45 then Some Minus else
-    (if nat_eq sign 43 then Some Plus else (if nat_eq sign 33 then Some Not else None))
+    if nat_eq sign MINUS then Some Minus else
+    (if nat_eq sign PLUS then Some Plus else (if nat_eq sign NOT then Some Not else None))

@@ -8,8 +8,8 @@ use Rattle.scene_expr.specs.declared.value.Trouble.{Trouble}
 use Rattle.scene_expr.specs.Numbers.{natural_of}
 use Rattle.scene_expr.specs.Values.{float, is_short}
 
-abbrev pub length_value : List ℕ → Result Value Trouble
-length_value text = float (in_range (pos (length text * 65536)))
+abbrev pub size_value : List ℕ → Result Value Trouble
+size_value text = float (in_range (pos (length text * 65536)))
 
 -- a text of at most 65,536 bytes
 abbrev pub text_value : List ℕ → Result Value Trouble

@@ -8,7 +8,7 @@ use crate::words::{
     Call, Channel, ColourForm, Component, Constant, Word, channel_of, component_of, word_of,
 };
 use fix_math::Fix;
-use scene_lexer::{Kind, Place, Token};
+use scene_lexer::{Kind, Place, Token, sign};
 
 /// A token that opens a depth.
 #[derive(Clone, Copy)]
@@ -113,13 +113,13 @@ pub fn component_at(tokens: &[Token], at: usize) -> Option<Component>
     }
 }
 
-fn sign_head(sign: u8) -> Head
-    ensures { result ≡ sign_head sign }
+fn sign_head(code: u8) -> Head
+    ensures { result ≡ sign_head code }
 {
-    match sign {
-        b'(' => Head::Opener(Opener::Bracket),
-        b'<' => Head::Opener(Opener::Angle),
-        _ => match prefix_of(sign) {
+    match code {
+        sign::OPEN_BRACKET => Head::Opener(Opener::Bracket),
+        sign::LESS => Head::Opener(Opener::Angle),
+        _ => match prefix_of(code) {
             Some(sign) => Head::Opener(Opener::Prefix(sign)),
             None => Head::Nothing,
         },
@@ -148,19 +148,19 @@ pub fn head_at(tokens: &[Token], at: usize) -> Head
             Kind::Word(name) => word_head(word_of(name.bytes())),
             Kind::Number(value) => Head::Number(*value),
             Kind::Text(_) => Head::Text,
-            Kind::Sign(sign) => sign_head(*sign),
+            Kind::Sign(code) => sign_head(*code),
         },
         None => Head::Nothing,
     }
 }
 
 /// The place behind the sign that has to stand here.
-pub fn passed(sign: u8, tokens: &[Token], at: usize) -> Result<usize, ExprFault>
-    requires { sign ≢ 0 }
-    ensures value { result ≡ passed sign tokens.now at }
+pub fn passed(code: u8, tokens: &[Token], at: usize) -> Result<usize, ExprFault>
+    requires { code ≢ 0 }
+    ensures value { result ≡ passed code tokens.now at }
     ensures within { IfOk result (λ next. next ≤ length tokens.now) }
 {
-    if sign_at(tokens, at) == sign {
+    if sign_at(tokens, at) == code {
         Ok(at + 1)
     } else {
         Err(ExprFault::Expected(place_at(tokens, at)))

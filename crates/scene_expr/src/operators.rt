@@ -30,13 +30,7 @@ ghost use Rattle.scene_expr.specs.Operators.{
 
 use crate::value::{Trouble, Value};
 use fix_math::{Fix, NumFault, V3, add, div, mul, sub};
-
-// Signs of two characters are single bytes here: `<=`, `>=` and `!=`.
-const AT_MOST: u8 = 128;
-
-const AT_LEAST: u8 = 129;
-
-const NOT_EQUAL: u8 = 130;
+use scene_lexer::sign;
 
 /// A sign before a value.
 #[derive(Clone, Copy)]
@@ -413,70 +407,70 @@ pub fn chosen(condition: Value, first: Value, second: Value) -> Result<Value, Tr
     }
 }
 
-pub fn sum_operator(sign: u8) -> Option<Operator>
-    ensures { result ≡ sum_operator sign }
+pub fn sum_operator(code: u8) -> Option<Operator>
+    ensures { result ≡ sum_operator code }
 {
-    if sign == b'+' {
+    if code == sign::PLUS {
         Some(Operator::Arithmetic(Arithmetic::Add))
-    } else if sign == b'-' {
+    } else if code == sign::MINUS {
         Some(Operator::Arithmetic(Arithmetic::Subtract))
     } else {
         None
     }
 }
 
-pub fn term_operator(sign: u8) -> Option<Operator>
-    ensures { result ≡ term_operator sign }
+pub fn term_operator(code: u8) -> Option<Operator>
+    ensures { result ≡ term_operator code }
 {
-    if sign == b'*' {
+    if code == sign::TIMES {
         Some(Operator::Arithmetic(Arithmetic::Multiply))
-    } else if sign == b'/' {
+    } else if code == sign::OVER {
         Some(Operator::Arithmetic(Arithmetic::Divide))
     } else {
         None
     }
 }
 
-pub fn comparison_operator(sign: u8) -> Option<Operator>
-    ensures { result ≡ comparison sign }
+pub fn comparison_operator(code: u8) -> Option<Operator>
+    ensures { result ≡ comparison code }
 {
-    if sign == b'=' {
+    if code == sign::EQUAL {
         Some(Operator::Comparison(Comparison::Equal))
-    } else if sign == NOT_EQUAL {
+    } else if code == sign::NOT_EQUAL {
         Some(Operator::Comparison(Comparison::NotEqual))
-    } else if sign == b'<' {
+    } else if code == sign::LESS {
         Some(Operator::Comparison(Comparison::Less))
-    } else if sign == AT_MOST {
+    } else if code == sign::AT_MOST {
         Some(Operator::Comparison(Comparison::AtMost))
-    } else if sign == b'>' {
+    } else if code == sign::GREATER {
         Some(Operator::Comparison(Comparison::Greater))
-    } else if sign == AT_LEAST {
+    } else if code == sign::AT_LEAST {
         Some(Operator::Comparison(Comparison::AtLeast))
     } else {
         None
     }
 }
 
-pub fn connective_operator(sign: u8) -> Option<Operator>
-    ensures { result ≡ connective sign }
+pub fn connective_operator(code: u8) -> Option<Operator>
+    ensures { result ≡ connective code }
 {
-    if sign == b'&' {
+    if code == sign::AND {
         Some(Operator::Connective(Connective::And))
-    } else if sign == b'|' {
+    } else if code == sign::OR {
         Some(Operator::Connective(Connective::Or))
     } else {
         None
     }
 }
 
-pub fn prefix_of(sign: u8) -> Option<Prefix>
-    ensures { result ≡ prefix sign }
+pub fn prefix_of(code: u8) -> Option<Prefix>
+    ensures { result ≡ prefix code }
 {
-    if sign == b'-' {
+    if code == sign::MINUS {
         Some(Prefix::Minus)
-    } else if sign == b'+' {
+    } else if code == sign::PLUS {
         Some(Prefix::Plus)
-    } else if sign == b'!' {
+    } else if code == sign::NOT {
         Some(Prefix::Not)
     } else {
         None

@@ -23,7 +23,7 @@ use crate::operators::{
 use crate::texts::text;
 use crate::value::{ExprFault, Level, Settings, Trouble, Value};
 use crate::words::{Arity, Call};
-use scene_lexer::Token;
+use scene_lexer::{Token, sign};
 use smallvec::SmallVec;
 use std::alloc::Global;
 
@@ -86,7 +86,7 @@ fn goes_on(tokens: &[Token], arity: Arity, count: usize, at: usize) -> Result<bo
         Some(most) => count < most,
         None => true,
     };
-    if may && sign_at(tokens, at) == b',' {
+    if may && sign_at(tokens, at) == sign::COMMA {
         Ok(true)
     } else if count < arity.least {
         Err(ExprFault::Expected(place_at(tokens, at)))
@@ -117,7 +117,7 @@ fn dotted(tokens: &[Token], value: Value, at: usize) -> Result<(Value, usize), E
 {
     let mut value = value;
     let mut next = at;
-    'dots: while sign_at(tokens, next) == b'.' {
+    'dots: while sign_at(tokens, next) == sign::DOT {
         value = with_component(tokens, value, next)?;
         next += 2;
     }
@@ -141,9 +141,9 @@ fn opened(
     ensures within { IfOk result (λ found. (at ≤ found.1) × (found.1 ≤ length tokens.now)) }
 {
     match opener {
-        Opener::Prefix(sign) => {
+        Opener::Prefix(prefix) => {
             let (value, next) = factor(alloc, tokens, set, at + 1, depths)?;
-            Ok((settled(tokens, prefixed(sign, value), at)?, next))
+            Ok((settled(tokens, prefixed(prefix, value), at)?, next))
         }
         Opener::Colour => {
             let (value, next) = factor(alloc, tokens, set, at + 1, depths)?;
@@ -155,15 +155,15 @@ fn opened(
         }
         Opener::Bracket => {
             let (value, next) = choice(alloc, tokens, set, at + 1, depths)?;
-            Ok((value, passed(b')', tokens, next)?))
+            Ok((value, passed(sign::CLOSE_BRACKET, tokens, next)?))
         }
         Opener::Angle => {
             let (values, end) = row(alloc, tokens, set, at + 1, depths, Level::Sum, ANGLE)?;
-            let next = passed(b'>', tokens, end)?;
+            let next = passed(sign::GREATER, tokens, end)?;
             Ok((settled(tokens, grouped(values.as_slice()), at)?, next))
         }
         Opener::Call(call) => {
-            let start = passed(b'(', tokens, at + 1)?;
+            let start = passed(sign::OPEN_BRACKET, tokens, at + 1)?;
             let (values, end) = row(
                 alloc,
                 tokens,
@@ -173,7 +173,7 @@ fn opened(
                 Level::Choice,
                 call.arity(),
             )?;
-            let next = passed(b')', tokens, end)?;
+            let next = passed(sign::CLOSE_BRACKET, tokens, end)?;
             Ok((called_at(alloc, tokens, call, values.as_slice(), at)?, next))
         }
         Opener::Channels => channels(alloc, tokens, set, at, depths),
@@ -417,14 +417,14 @@ fn choice(
     ensures within { IfOk result (λ found. (at ≤ found.1) × (found.1 ≤ length tokens.now)) }
 {
     let (condition, asked) = connected(alloc, tokens, set, at, depths)?;
-    if sign_at(tokens, asked) != b'?' {
+    if sign_at(tokens, asked) != sign::QUESTION {
         return Ok((condition, asked));
     }
     if depths == 0 {
         return Err(ExprFault::Range(place_at(tokens, asked)));
     }
     let (first, end) = choice(alloc, tokens, set, asked + 1, depths - 1)?;
-    let start = passed(b':', tokens, end)?;
+    let start = passed(sign::COLON, tokens, end)?;
     let (second, next) = choice(alloc, tokens, set, start, depths - 1)?;
     Ok((
         settled(tokens, chosen(condition, first, second), asked)?,

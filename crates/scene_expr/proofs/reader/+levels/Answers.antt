@@ -180,8 +180,8 @@ pub choice-returns-in_err-condition-clause-fault : goal.choice-returns-in_err-co
 choice-returns-in_err-condition-clause-fault t c =
     exit _ _ _ c.from_residual.ensures.1 (λ some. IsThen.fault _ (c.in_err-condition.ensures.fault some))
 
-pub choice-returns-then-sign_at-ne63-clause-found : goal.choice-returns-then-sign_at-ne63-clause-found
-choice-returns-then-sign_at-ne63-clause-found t c =
+pub choice-returns-then-sign_at-ne-QUESTION-clause-found : goal.choice-returns-then-sign_at-ne-QUESTION-clause-found
+choice-returns-then-sign_at-ne-QUESTION-clause-found t c =
     let none : nat_eq (sign_at c.args.tokens.now c.in_ok-condition.asked) 63 ≡ false = grind arith in
     IsThen.found _ _ c.in_ok-condition.ensures.found (unasked c.args.tokens.now (nat_eq c.args.depths 0) (inner c.args.tokens.now c.args.set.now c.args.depths) (read c.in_ok-condition.condition c.in_ok-condition.asked) none)
 
@@ -246,15 +246,15 @@ part-returns-in-Sum-clause-fault t c =
 
 pub opened-returns-in_err-value-in-Prefix-clause-fault : goal.opened-returns-in_err-value-in-Prefix-clause-fault
 opened-returns-in_err-value-in-Prefix-clause-fault t c =
-    exit _ _ _ c.from_residual.ensures.1 (λ some. begins c.args.tokens.now (inner c.args.tokens.now c.args.set.now (suc c.args.depths)) c.args.opener (Opener.Prefix c.in-Prefix.sign) c.args.at _ c.in-Prefix.is (IsThen.fault _ (factor_inside c.args.tokens.now c.args.set.now c.args.depths (c.args.at + 1) _ (c.in_err-value-in-Prefix.ensures.fault some))))
+    exit _ _ _ c.from_residual.ensures.1 (λ some. begins c.args.tokens.now (inner c.args.tokens.now c.args.set.now (suc c.args.depths)) c.args.opener (Opener.Prefix c.in-Prefix.prefix) c.args.at _ c.in-Prefix.is (IsThen.fault _ (factor_inside c.args.tokens.now c.args.set.now c.args.depths (c.args.at + 1) _ (c.in_err-value-in-Prefix.ensures.fault some))))
 
 pub opened-returns-in_err-settled-in-Prefix-clause-fault : goal.opened-returns-in_err-settled-in-Prefix-clause-fault
 opened-returns-in_err-settled-in-Prefix-clause-fault t c =
-    exit _ _ _ c.from_residual-in_err-settled-in-Prefix.ensures.1 (λ some. begins c.args.tokens.now (inner c.args.tokens.now c.args.set.now (suc c.args.depths)) c.args.opener (Opener.Prefix c.in-Prefix.sign) c.args.at _ c.in-Prefix.is (IsThen.found _ _ (factor_inside c.args.tokens.now c.args.set.now c.args.depths (c.args.at + 1) _ c.in_ok-value-in-Prefix.ensures.found) (sym (c.in_err-settled-in-Prefix.ensures.fault c.in_ok-value-in-Prefix.next) ∙ ap (λ outcome. made outcome (place_at c.args.tokens.now c.args.at) c.in_ok-value-in-Prefix.next) c.prefixed.ensures)))
+    exit _ _ _ c.from_residual-in_err-settled-in-Prefix.ensures.1 (λ some. begins c.args.tokens.now (inner c.args.tokens.now c.args.set.now (suc c.args.depths)) c.args.opener (Opener.Prefix c.in-Prefix.prefix) c.args.at _ c.in-Prefix.is (IsThen.found _ _ (factor_inside c.args.tokens.now c.args.set.now c.args.depths (c.args.at + 1) _ c.in_ok-value-in-Prefix.ensures.found) (sym (c.in_err-settled-in-Prefix.ensures.fault c.in_ok-value-in-Prefix.next) ∙ ap (λ outcome. made outcome (place_at c.args.tokens.now c.args.at) c.in_ok-value-in-Prefix.next) c.prefixed.ensures)))
 
 pub opened-returns-in_ok-settled-in-Prefix-clause-found : goal.opened-returns-in_ok-settled-in-Prefix-clause-found
 opened-returns-in_ok-settled-in-Prefix-clause-found t c =
-    begins c.args.tokens.now (inner c.args.tokens.now c.args.set.now (suc c.args.depths)) c.args.opener (Opener.Prefix c.in-Prefix.sign) c.args.at _ c.in-Prefix.is (IsThen.found _ _ (factor_inside c.args.tokens.now c.args.set.now c.args.depths (c.args.at + 1) _ c.in_ok-value-in-Prefix.ensures.found) (sym (c.in_ok-settled-in-Prefix.ensures.ok c.in_ok-value-in-Prefix.next) ∙ ap (λ outcome. made outcome (place_at c.args.tokens.now c.args.at) c.in_ok-value-in-Prefix.next) c.prefixed.ensures))
+    begins c.args.tokens.now (inner c.args.tokens.now c.args.set.now (suc c.args.depths)) c.args.opener (Opener.Prefix c.in-Prefix.prefix) c.args.at _ c.in-Prefix.is (IsThen.found _ _ (factor_inside c.args.tokens.now c.args.set.now c.args.depths (c.args.at + 1) _ c.in_ok-value-in-Prefix.ensures.found) (sym (c.in_ok-settled-in-Prefix.ensures.ok c.in_ok-value-in-Prefix.next) ∙ ap (λ outcome. made outcome (place_at c.args.tokens.now c.args.at) c.in_ok-value-in-Prefix.next) c.prefixed.ensures))
 
 pub opened-returns-in_err-value-in-Colour-clause-fault : goal.opened-returns-in_err-value-in-Colour-clause-fault
 opened-returns-in_err-value-in-Colour-clause-fault t c =
