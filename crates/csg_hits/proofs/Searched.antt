@@ -1,5 +1,5 @@
 -- What a search among the first objects knows.
-use Rattle.std.proofs.Common.{ℕ, ◌+◌, ◌-◌, ◌^◌, ◌<◌, ◌≤◌, ◌≡◌, ◌↔◌, max, min, Option, Some, None, List, length, slice_get, IsSomeAnd, IfSome, IfNone, refl, subst, sym, ⊎_elim, arith}
+use Rattle.std.proofs.Common.{ℕ, ◌+◌, ◌-◌, ◌^◌, ◌<◌, ◌≤◌, ◌≡◌, max, min, Option, Some, None, List, length, slice_get, IsSomeAnd, IfSome, IfNone, refl, subst, sym, ⊎_elim, arith}
 use Rattle.std.proofs.Math.Nat.{eq-or-lt_of_le}
 use Rattle.std.proofs.lemmas.Bool.{cases_lt}
 use Rattle.std.proofs.lemmas.Option.{slice_get_past}
@@ -30,14 +30,6 @@ pub record Begins (after from : ℕ) : Type 0 where
 
 pub begins : (after from : ℕ) → from ≡ max (min (after + 1) (2 ^ 64 - 1)) 64 → Begins after from
 begins after from e = record { near = omega arith; behind = λ t h k. omega arith; all = λ t h k m. omega arith }
-
-pub none_yet : (is_hit : ℕ → ℕ → Type 0) (ray : Ray) (end : ℕ) → ((t : ℕ) → (t < end) ↔ IsInWorld (point_at ray t)) → Searched is_hit ray 0 end None
-none_yet is_hit ray end reach = record {
-  behind = λ t object lt h. absurd (omega arith);
-  world = λ t lt. (reach t).0 lt;
-  kept = tt;
-  none = λ t h. (reach t).1 h;
-}
 
 struck_of : (A : Type 0) (holds : A → Position → Type 0) (objects : List A) (ray : Ray) (after t n object : ℕ) (volume : A) → slice_get objects n ≡ Some volume → object ≡ n → IsHit holds objects ray after t object → IsStruck (holds volume) ray t
 struck_of A holds objects ray after t n object volume at e h =

@@ -7,7 +7,6 @@ use Rattle.std.proofs.lemmas.Bool.{cases_lt}
 use Rattle.std.proofs.lemmas.Nat.{mod_below, div-add-mod', pow-add, pow_pos, leading_top}
 use Rattle.std.specs.Int.Count.{count_leading_zeros}
 use Rattle.std.proofs.Math.Pow.{pow_mono}
-use Rattle.fix_math.specs.RootLaws.{root_order}
 use Rattle.fix_math.specs.NearRoots.{IsNearRoot}
 
 -- the sum of two numbers has at least twice the root of their product
@@ -113,10 +112,6 @@ IsNearRoot-refined n a h one le near =
     (quotient_most n (4 * h * h) (omega arith))
     (quotient_least n (4 * (a * h)))
     (quotient_most n (4 * (a * h)) (omega arith)))
-
--- the size of a number near a root
-pub IsNearRoot-least : (m a r : ℕ) → IsNearRoot m a → r * r ≤ m → r ≤ a
-IsNearRoot-least m a r near le = root_order r a (omega (arith, near.high))
 
 -- the root of a number with 2 k digits more has k digits more
 pub shifted_root : (n p r : ℕ) → 0 < p → r * r ≤ n * (p * p) → n * (p * p) < (r + 1) * (r + 1) → (r / p * (r / p) ≤ n) × (n < (r / p + 1) * (r / p + 1))

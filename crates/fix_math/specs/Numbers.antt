@@ -1,6 +1,6 @@
 -- Numbers with 16 fraction bits. A number stands for its raw whole number: 1 unit is 65536 raw.
-use Rattle.std.specs.Prelude.{ℕ, ℤ, Bool, nat_lt, pos, ◌+ℤ◌, ◌*ℤ◌, neg_ℤ, ◌-◌, ◌<◌, ◌^◌, unsigned_abs, int_lt, if◌then◌else◌}
-use Rattle.std.specs.Int.{int_div_euclid, int_min}
+use Rattle.std.specs.Prelude.{ℕ, ℤ, Bool, nat_lt, pos, ◌+ℤ◌, ◌*ℤ◌, neg_ℤ, ◌<◌, ◌^◌, unsigned_abs, int_lt, if◌then◌else◌}
+use Rattle.std.specs.Int.{int_div_euclid}
 
 -- the quotient of a by b > 0, rounded to the nearest whole number, halves up: the floor of (2a + b) / 2b
 abbrev pub rnd : ℤ → ℤ → ℤ
@@ -28,8 +28,3 @@ product_of a b = rnd (a *ℤ b) (pos 65536)
 -- the quotient of two values, rounded once
 abbrev pub quotient_of : ℤ → ℤ → ℤ
 quotient_of a b = quotient (a *ℤ pos 65536) b
-
--- the sample of a channel at so many bits: none is 0, one unit and more is the greatest sample
-abbrev pub sample_of : ℕ → ℤ → ℕ
-sample_of bits raw =
-    unsigned_abs (int_min (pos (2 ^ bits - 1)) (rnd (raw *ℤ pos (2 ^ bits - 1)) (pos 65536)))

@@ -1,6 +1,6 @@
 // Sums, products and quotients of numbers, each rounded once.
 ghost use Rattle.std.specs.Prelude.{◌≡◌, ◌≢◌, ◌<◌, ◌≤◌, ◌^◌, pos, ◌+ℤ◌, ◌-ℤ◌, ◌<ℤ◌, ◌≤ℤ◌, unsigned_abs};
-ghost use Rattle.fix_math.specs.Numbers.{rnd, quotient, product_of, sample_of};
+ghost use Rattle.fix_math.specs.Numbers.{rnd, quotient, product_of};
 ghost use Rattle.fix_math.specs.Outcomes.{in_range, divided};
 
 use crate::fix::{Fix, NumFault};
@@ -88,14 +88,4 @@ pub fn div(a: Fix, b: Fix) -> Result<Fix, NumFault>
         return Err(NumFault::ZeroDivisor);
     }
     Fix::from_raw(rounded_quotient(a.wide() * 65536, b.wide()))
-}
-
-/// The byte of a channel in an image file: 255 for one unit and more.
-#[inline]
-pub fn channel_byte(raw: Fix) -> u8
-    requires { pos 0 ≤ℤ raw }
-    ensures { result ≡ sample_of 8 raw }
-{
-    let scaled = rounded(raw.wide() * 255, 65536);
-    scaled.min(255) as u8
 }

@@ -13,7 +13,7 @@ mod text;
 mod vectors;
 
 pub use angles::sincos;
-pub use arithmetic::{add, channel_byte, div, mul, rounded, rounded_quotient, rounded_shift, sub};
+pub use arithmetic::{add, div, mul, rounded, rounded_quotient, rounded_shift, sub};
 pub use directions::{unit, unit_wide};
 pub use fix::{Fix, NumFault, V3};
 pub use powers::{power, power_unit};

@@ -13,7 +13,8 @@ use Rattle.image_out.specs.declared.unpack.RleFault.{RleFault}
 use Rattle.image_out.specs.declared.unpack.RleFault.TheVariants.{Short, PastRow, Long, NoMemory}
 use Rattle.image_out.specs.Pixels.{Pixel, turned}
 use Rattle.image_out.specs.Packets.{Packet, Run, Raw, IsPacket, packet_pixels, packet_bytes, pixel_count, row_bytes}
-use Rattle.image_out.specs.Unpacking.{pixels_in, IsRow, Unpacks, ReadsPacket, ReadsPart, ReadsPicture, AreRows, count_of, IsFault, IsRowFault}
+use Rattle.image_out.specs.Reading.{ReadsPacket, ReadsPart}
+use Rattle.image_out.specs.Unpacking.{pixels_in, IsRow, Unpacks, ReadsPicture, AreRows, count_of, IsFault, IsRowFault}
 
 -- so many whole rows are read, and the rest is left
 abbrev pub RowsRead : ℕ → ℕ → List ℕ → List ℕ → List ℕ → Type 0

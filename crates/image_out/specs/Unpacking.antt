@@ -4,7 +4,7 @@ use Rattle.std.specs.List.{flat_map}
 use Rattle.image_out.specs.declared.unpack.RleFault.{RleFault}
 use Rattle.image_out.specs.declared.unpack.RleFault.TheVariants.{Short, PastRow, Long, NoMemory}
 use Rattle.image_out.specs.Pixels.{Pixel, turned}
-use Rattle.image_out.specs.Packets.{Packet, packet_pixels, packet_bytes, pixel_count, IsPacket, row_bytes}
+use Rattle.image_out.specs.Packets.{Packet, packet_pixels, IsPacket, row_bytes}
 
 -- the pixels of packets one after another
 abbrev pub pixels_in : List Packet → List Pixel
@@ -91,17 +91,3 @@ turned_rows rows = flat_map (λ row. flat_map turned row) rows
 abbrev pub ReadsPicture : ℕ → ℕ → List ℕ → List ℕ → Type 0
 ReadsPicture width height bytes triples =
     (rows : List (List Pixel)) × Unpacks width bytes rows × (length rows ≡ height) × (triples ≡ turned_rows rows)
-
--- the bytes are a packet and a rest, and the packet's triples follow the others
-pub record ReadsPacket (left count : ℕ) (bytes rest old new : List ℕ) : Type 0 where
-  pub packet : Packet
-  pub sound : IsPacket packet
-  pub count_is : pixel_count packet ≡ count
-  pub fits : count ≤ left
-  pub bytes_are : bytes ≡ packet_bytes packet ++ rest
-  pub triples : new ≡ old ++ flat_map turned (packet_pixels packet)
-
--- packets that leave so many pixels of a row open, and their triples behind the others
-abbrev pub ReadsPart : ℕ → ℕ → List ℕ → List ℕ → List ℕ → List ℕ → Type 0
-ReadsPart width left bytes rest old new =
-    (packets : List Packet) × IsPart width left bytes rest packets × (new ≡ old ++ flat_map turned (pixels_in packets))

@@ -1,7 +1,8 @@
 // Run-length packets, read.
 ghost use Rattle.std.specs.Prelude.{◌≡◌, ◌++◌, ℕ, List, IfOk, IfErr, OnOk, MatchResult};
 ghost use Rattle.std.specs.List.{repeat};
-ghost use Rattle.image_out.specs.Unpacking.{IsFault, IsOneFault, IsPacketFault, IsRowFault, ReadsPacket, ReadsPart, ReadsPicture};
+ghost use Rattle.image_out.specs.Reading.{ReadsPacket, ReadsPart};
+ghost use Rattle.image_out.specs.Unpacking.{IsFault, IsOneFault, IsPacketFault, IsRowFault, ReadsPicture};
 
 use std::alloc::{AllocError, Global};
 

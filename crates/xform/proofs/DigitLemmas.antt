@@ -1,5 +1,5 @@
 -- The binary digits of an extent.
-use Rattle.std.specs.Prelude.{◌≡◌, ℕ, ◌+◌, ◌-◌, ◌*◌, ◌^◌, ◌≤◌, ◌<◌, nat_lt, true, false}
+use Rattle.std.specs.Prelude.{◌≡◌, ℕ, ◌+◌, ◌-◌, ◌*◌, ◌^◌, ◌≤◌, ◌<◌, nat_lt, false}
 use Rattle.std.specs.Int.Count.{count_leading_zeros}
 use Rattle.std.proofs.Common.{arith, ⊎_elim}
 use Rattle.std.proofs.Math.Pow.{pow_mono}
@@ -8,9 +8,7 @@ use Rattle.std.proofs.lemmas.Bool.Decides.{nat_tests}
 use Rattle.std.proofs.lemmas.Nat.{leading_length, pow-add}
 use Rattle.fix_math.specs.Least.{least-is}
 use Rattle.xform.specs.Placing.{digits_of}
-
-below : (w g : ℕ) → w < 2 ^ g → nat_lt w (2 ^ g) ≡ true
-below w g lt = grind (arith, nat_tests)
+use Rattle.xform.specs.SpotLaws.{digits_enough}
 
 not_below : (w g : ℕ) → 2 ^ g ≤ w → nat_lt w (2 ^ g) ≡ false
 not_below w g le = grind (arith, nat_tests)
@@ -21,7 +19,7 @@ few w m small least = ⊎_elim (λ lt. omega arith) (λ le. absurd (omega (arith
 digits-is : (w m : ℕ) → w ≤ 2 ^ 30 → w < 2 ^ m → 2 ^ m ≤ 2 * w + 1 → digits_of w ≡ m
 digits-is w m small above least =
     let m_few = few w m small least in
-    least-is (λ g. nat_lt w (2 ^ g)) 64 m (omega arith) (below w m above)
+    least-is (λ g. nat_lt w (2 ^ g)) 64 m (omega arith) (digits_enough w m above)
     (λ j lt. not_below w j (omega (arith, pow_mono {i = j + 1} {j = m} (omega arith), pow-add 2 j 1)))
 
 pub digits : (w : ℕ) → w ≤ 2 ^ 30 → (64 - count_leading_zeros 64 w ≡ digits_of w) × (64 - count_leading_zeros 64 w ≤ 31)

@@ -2,3 +2,4 @@ mod InverseLemmas
 mod ComposeLemmas
 mod DigitLemmas
 mod SpotLemmas
+mod Examples

@@ -11,7 +11,7 @@ use Rattle.fix_math.specs.declared.fix.V3.{V3}
 use Rattle.fix_math.specs.Floor.{rnd_within}
 use Rattle.fix_math.specs.Least.{least_first, least_passes}
 use Rattle.fix_math.specs.DirectionLaws.{unit_within}
-use Rattle.fix_math.specs.MatrixLaws.{IsRowWithin-weaker, matrix_within, entry-matrix}
+use Rattle.fix_math.specs.MatrixLaws.{IsRowWithin-weaker, dot_within, matrix_within, entry-matrix}
 use Rattle.fix_math.specs.Matrices.{entry, along, row_at, row_of, vector, is_vector_within, IsMatrixWithin, IsVectorWithin}
 use Rattle.fix_math.specs.Numbers.{shortened}
 use Rattle.fix_math.specs.Ring.{diff-parts, diff-same, ring_rules}
@@ -68,8 +68,8 @@ spot_at_is_spot x frame anchor e placed small near least most = record {
 
 -- ---- the scaling of an extent
 
-below : (w g : ℕ) → w < 2 ^ g → nat_lt w (2 ^ g) ≡ true
-below w g lt = grind (arith, nat_tests)
+pub digits_enough : (w g : ℕ) → w < 2 ^ g → nat_lt w (2 ^ g) ≡ true
+digits_enough w g lt = grind (arith, nat_tests)
 
 under : (w g : ℕ) → nat_lt w (2 ^ g) ≡ true → w < 2 ^ g
 under w g e = grind (arith, nat_tests)
@@ -77,7 +77,7 @@ under w g e = grind (arith, nat_tests)
 pub digits_few : (w : ℕ) → w ≤ 2 ^ 30 → digits_of w ≤ 31
 digits_few w small =
     ⊎_elim
-    (λ lt. absurd (false≢true (sym (least_first (λ g. nat_lt w (2 ^ g)) 64 31 lt) ∙ below w 31 (omega arith))))
+    (λ lt. absurd (false≢true (sym (least_first (λ g. nat_lt w (2 ^ g)) 64 31 lt) ∙ digits_enough w 31 (omega arith))))
     (λ le. le)
     (cases_lt 31 (digits_of w))
 
@@ -200,3 +200,14 @@ leads_back s spot u i lt =
     ∙ ap (λ (t : ℤ). entry (identity (pos (2 ^ (32 + s.e)))) i 0 *ℤ u 0 +ℤ t *ℤ u 1 +ℤ (times s.m s.n i 2 +ℤ entry s.residual i 2) *ℤ u 2) (spot.equation i 1 lt (omega arith))
     ∙ ap (λ (t : ℤ). entry (identity (pos (2 ^ (32 + s.e)))) i 0 *ℤ u 0 +ℤ entry (identity (pos (2 ^ (32 + s.e)))) i 1 *ℤ u 1 +ℤ t *ℤ u 2) (spot.equation i 2 lt (omega arith))
     ∙ whole_entry (pos (2 ^ (32 + s.e))) i lt u
+
+-- so what m makes of the place differs from U by no more than the residual makes of U
+pub nearly_back : (s : Spot) → IsSpot s → (u : ℕ → ℤ) (i : ℕ) → i < 3 → (far left : ℕ)
+    → ((k : ℕ) → k < 3 → unsigned_abs (u k) ≤ far) → ((k : ℕ) → k < 3 → unsigned_abs (entry s.residual i k) ≤ left)
+    → unsigned_abs (pos (2 ^ (32 + s.e)) *ℤ u i -ℤ dot (entry s.m i) (λ k. dot (entry s.n k) u)) ≤ 3 * (left * far)
+nearly_back s spot u i lt far left u_far small =
+    apart (dot (entry s.m i) (λ k. dot (entry s.n k) u)) (dot (entry s.residual i) u) (pos (2 ^ (32 + s.e)) *ℤ u i) (3 * (left * far))
+    (leads_back s spot u i lt) (dot_within (entry s.residual i) u left far small u_far)
+  where
+    apart : (a b c : ℤ) (most : ℕ) → a +ℤ b ≡ c → unsigned_abs b ≤ most → unsigned_abs (c -ℤ a) ≤ most
+    apart a b c most e le = omega (arith, ints)

@@ -342,6 +342,8 @@ fn points_move_with_their_object(rt: HostRuntime) -> Result<(), Fail> {
     let fallen = compose(&[fall(), quarter_turn()]).ok().ok_or("a step")?;
     assert_eq!(rt; point(&fallen, corner()), [131072, 65536, 262144]);
     assert_eq!(rt; point(&start(), corner()), [65536, 0, 262144]);
+    assert_eq!(rt; direction(&turned, corner()), [0, 65536, 262144]);
+    assert_eq!(rt; direction(&start(), corner()), [65536, 0, 262144]);
     assert_eq!(rt;
         parts_of(then(&start(), &quarter_turn())),
         Ok((

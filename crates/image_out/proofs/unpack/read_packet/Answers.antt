@@ -1,7 +1,8 @@
 -- A raw packet or a run.
 use Rattle.std.proofs.Common.{◌≡◌, ◌*◌, ◌≤◌, ◌<◌, ◌-◌, ◌++◌, length, arith, ap, sym, subst, ◌∙◌, take, drop, get_or}
 use Rattle.std.specs.List.{repeat}
-use Rattle.image_out.specs.Unpacking.{ReadsPacket, count_of}
+use Rattle.image_out.specs.Reading.{ReadsPacket}
+use Rattle.image_out.specs.Unpacking.{count_of}
 use Rattle.image_out.proofs.ReadLemmas.{by_head, raw_read, repeated, run_read, split_is}
 use Rattle.image_out.proofs.unpack.read_packet.Goals as goal
 use Rattle.image_out.proofs.unpack.read_packet.Goals.{then-head-lt128, else-head-lt128, then-head-lt128-2, else-head-lt128-2}

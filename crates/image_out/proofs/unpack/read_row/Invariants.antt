@@ -1,5 +1,5 @@
 -- The packets so far, and the pixels that are still open.
-use Rattle.image_out.specs.Unpacking.{ReadsPart}
+use Rattle.image_out.specs.Reading.{ReadsPart}
 use Rattle.image_out.proofs.unpack.read_row.Given as goal
 
 abbrev pub invariant-loop-left : goal.invariant-loop-left
