@@ -30,19 +30,19 @@ IsRefusal (Absent name) = Unit {0}
 IsRefusal NoMemory = Unit {0}
 IsRefusal fault = ⊥
 
-module _ (frame : Frame) (told : Option (List Text)) (texts_before texts_now shelf_before shelf_now : ℕ) (holds : Contents) where
+module _ (frame : Frame) (told : Option (List Text)) (texts_before texts_now shelf_before shelf_now : ℕ) (holds images : Contents) where
   -- what a text's refusal leaves: nothing is touched
   abbrev Ends : Fault → Type 0
-  Ends = IsEnd frame told texts_before texts_now shelf_before shelf_now holds holds
+  Ends = IsEnd frame told texts_before texts_now shelf_before shelf_now holds holds images images
 
-  same : SameContents holds holds
-  same n c held = held
+  same : (contents : Contents) → SameContents contents contents
+  same contents n c held = held
 
   refused : (fault : Fault) → IsRefusal fault → ((texts : List Text) → told ≡ Some texts → IsCausedBy (FrameVerdict frame texts) fault) → Ends fault
-  refused (SceneFault letter kind place) refusal caused = record { ending = tt; caused = caused; text_fault = λ e. cc; shelf_fault = λ e. cc; kept = λ e. same }
-  refused (Limit which place) refusal caused = record { ending = tt; caused = caused; text_fault = λ e. cc; shelf_fault = λ e. cc; kept = λ e. same }
-  refused (Absent name) refusal caused = record { ending = tt; caused = caused; text_fault = λ e. cc; shelf_fault = λ e. cc; kept = λ e. same }
-  refused NoMemory refusal caused = record { ending = tt; caused = caused; text_fault = λ e. cc; shelf_fault = λ e. cc; kept = λ e. same }
+  refused (SceneFault letter kind place) refusal caused = record { ending = tt; caused = caused; text_fault = λ e. cc; shelf_fault = λ e. cc; kept = λ e. same holds; crash_kept = λ e. same images }
+  refused (Limit which place) refusal caused = record { ending = tt; caused = caused; text_fault = λ e. cc; shelf_fault = λ e. cc; kept = λ e. same holds; crash_kept = λ e. same images }
+  refused (Absent name) refusal caused = record { ending = tt; caused = caused; text_fault = λ e. cc; shelf_fault = λ e. cc; kept = λ e. same holds; crash_kept = λ e. same images }
+  refused NoMemory refusal caused = record { ending = tt; caused = caused; text_fault = λ e. cc; shelf_fault = λ e. cc; kept = λ e. same holds; crash_kept = λ e. same images }
   refused Done refusal caused = absurd refusal
   refused (OptionFault kind place) refusal caused = absurd refusal
   refused TextFault refusal caused = absurd refusal
@@ -53,7 +53,7 @@ module _ (frame : Frame) (told : Option (List Text)) (texts_before texts_now she
 
   pub unread_ends : (fault : Fault) → IsUnread frame.input told texts_before texts_now fault → Ends fault
   unread_ends fault (IsUnread.absent is none) = subst Ends (sym is) (refused (Absent frame.input) tt (λ texts held. FrameVerdict.absent (none texts held) refl))
-  unread_ends fault (IsUnread.failed is rose) = subst Ends (sym is) (record { ending = tt; caused = λ texts held. tt; text_fault = λ e. rose; shelf_fault = λ e. cc; kept = λ e. same })
+  unread_ends fault (IsUnread.failed is rose) = subst Ends (sym is) (record { ending = tt; caused = λ texts held. tt; text_fault = λ e. rose; shelf_fault = λ e. cc; kept = λ e. same holds; crash_kept = λ e. same images })
   unread_ends fault (IsUnread.no_memory is) = subst Ends (sym is) no_memory_ends
 
   module _ (text : List ℕ) (found : (texts : List Text) → told ≡ Some texts → text_of texts frame.input ≡ Some text) where
@@ -86,9 +86,9 @@ drawn_verdict frame told text found tokens scene picture file short lexed parsed
     }) refl)
 
 -- a storage that fails, or has no memory for the file
-pub stored_ends : (frame : Frame) (told : Option (List Text)) (texts_before texts_now shelf_before shelf_now : ℕ) (old new : Contents) (fail : HoldFail) → ((texts : List Text) → told ≡ Some texts → FrameVerdict frame texts Done) → (fail ≡ HoldFail.Failed → Rose shelf_before shelf_now) → (fail ≡ HoldFail.NoMemory → SameContents old new) → IsEnd frame told texts_before texts_now shelf_before shelf_now old new (hold_fault fail)
-stored_ends frame told texts_before texts_now shelf_before shelf_now old new HoldFail.Failed verdict rose kept = record { ending = tt; caused = verdict; text_fault = λ e. cc; shelf_fault = λ e. rose refl; kept = λ other. absurd (other refl) }
-stored_ends frame told texts_before texts_now shelf_before shelf_now old new HoldFail.NoMemory verdict rose kept = record { ending = tt; caused = λ texts held. tt; text_fault = λ e. cc; shelf_fault = λ e. cc; kept = λ other. kept refl }
+pub stored_ends : (frame : Frame) (told : Option (List Text)) (texts_before texts_now shelf_before shelf_now : ℕ) (old new images images' : Contents) (fail : HoldFail) → ((texts : List Text) → told ≡ Some texts → FrameVerdict frame texts Done) → (fail ≡ HoldFail.Failed → Rose shelf_before shelf_now) → (fail ≡ HoldFail.NoMemory → SameContents old new) → (fail ≡ HoldFail.NoMemory → SameContents images images') → IsEnd frame told texts_before texts_now shelf_before shelf_now old new images images' (hold_fault fail)
+stored_ends frame told texts_before texts_now shelf_before shelf_now old new images images' HoldFail.Failed verdict rose kept crash_kept = record { ending = tt; caused = verdict; text_fault = λ e. cc; shelf_fault = λ e. rose refl; kept = λ other. absurd (other refl); crash_kept = λ other. absurd (other refl) }
+stored_ends frame told texts_before texts_now shelf_before shelf_now old new images images' HoldFail.NoMemory verdict rose kept crash_kept = record { ending = tt; caused = λ texts held. tt; text_fault = λ e. cc; shelf_fault = λ e. cc; kept = λ other. kept refl; crash_kept = λ other. crash_kept refl }
 
 -- a text under another spelling of its name and bytes
 pub long_at : (name name' text text' : List ℕ) (fault : Fault) → name ≡ name' → text ≡ text' → IsLong name text fault → IsLong name' text' fault

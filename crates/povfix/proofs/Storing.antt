@@ -1,7 +1,7 @@
 -- A file written from its start and cut to its length is the file.
 use Rattle.std.proofs.Common.{◌≡◌, ℕ, ◌+◌, ◌<◌, ◌≤◌, List, [], ◌∷◌, length, take, suc, refl, ap, ◌∙◌, arith, subst}
 use Rattle.std.specs.Prelude.{slice_index}
-use Rattle.shelf.specs.Disk.{Contents, Slots, name_at, Follows, SameContents, SameSlots, Tells, Written, Shortened}
+use Rattle.shelf.specs.Disk.{Contents, Slots, name_at, Follows, SameContents, SameSlots, Tells, Within, Written, Shortened}
 
 then_tells : (old mid new : Contents) → Tells old mid → Tells mid new → Tells old new
 then_tells old mid new first second = λ n c held. second n (first n c held).0 (first n c held).1
@@ -31,3 +31,8 @@ whole_stored file slots slots' slots'' slot before written cut synced same same'
     let d = cut_here c (syncs (name_at (slots slot)) c held) in
     let e = writes d.0 d.1 in
     d.2 ∙ written_front file e.0 d.0 e.2
+
+-- what a crash may leave after the sync is what is read
+pub synced : (slots slots' slots'' : Slots) (slot : ℕ) (reads images : Contents) → SameSlots slots slots' → SameSlots slots' slots'' → Within (reads (name_at (slots'' slot))) (images (name_at (slots'' slot))) → (c : List ℕ) → images (name_at (slots slot)) c → reads (name_at (slots slot)) c
+synced slots slots' slots'' slot reads images same same' within =
+    subst (λ name. Within (reads name) (images name)) (ap name_at (same' slot ∙ same slot)) within

@@ -26,10 +26,12 @@ IsEnding Done = ⊥
 IsEnding (OptionFault kind place) = ⊥
 IsEnding fault = Unit {0}
 
--- how a frame ends with a fault: for a cause, and with nothing new in the storage unless it is the storage that failed
-pub record IsEnd (frame : Frame) (told : Option (List Text)) (texts_before texts_now shelf_before shelf_now : ℕ) (old new : Contents) (fault : Fault) : Type 0 where
+-- how a frame ends with a fault: for a cause, and with nothing new in the storage, nor in what a crash may leave of it,
+-- unless it is the storage that failed
+pub record IsEnd (frame : Frame) (told : Option (List Text)) (texts_before texts_now shelf_before shelf_now : ℕ) (old new images images' : Contents) (fault : Fault) : Type 0 where
   pub ending : IsEnding fault
   pub caused : (texts : List Text) → told ≡ Some texts → IsCausedBy (FrameVerdict frame texts) fault
   pub text_fault : fault ≡ TextFault → Rose texts_before texts_now
   pub shelf_fault : fault ≡ ShelfFault → Rose shelf_before shelf_now
   pub kept : fault ≢ ShelfFault → SameContents old new
+  pub crash_kept : fault ≢ ShelfFault → SameContents images images'

@@ -19,4 +19,5 @@ pub use law::one_meaning;
 pub use options::{OptionFault, Plan, Where};
 pub use outcome::{Fault, Outcome, Traced};
 pub use render::run;
+pub use sample::append_pixel;
 pub use scene::{Ball, Scene};

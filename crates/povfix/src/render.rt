@@ -93,10 +93,13 @@ fn frame<T: Texts, S: Shelf>(
 ) -> Result<(), Fault>
     requires sides { IsSides plan.now.width plan.now.height }
     ensures stored { OnOk result ((h : List Text) → T.held texts.old ≡ Some h → IsStored (frame_of plan.now) h (S.holds shelf.new)) }
+    ensures durable { OnOk result ((h : List Text) → T.held texts.old ≡ Some h → IsStored (frame_of plan.now) h (S.images shelf.new (S.moment shelf.new))) }
     ensures end { IfErr result (IsEnd (frame_of plan.now) (T.held texts.old) (T.faults texts.old) (T.faults texts.new)
-        (S.faults shelf.old) (S.faults shelf.new) (S.holds shelf.old) (S.holds shelf.new)) }
+        (S.faults shelf.old) (S.faults shelf.new) (S.holds shelf.old) (S.holds shelf.new)
+        (S.images shelf.old (S.moment shelf.old)) (S.images shelf.new (S.moment shelf.new))) }
     ensures drawn { OnOk result ((h : List Text) → T.held texts.old ≡ Some h → FrameVerdict (frame_of plan.now) h Fault.Done) }
     ensures others { SameOthers plan.now.output (S.holds shelf.old) (S.holds shelf.new) }
+    ensures crash_others { SameOthers plan.now.output (S.images shelf.old (S.moment shelf.old)) (S.images shelf.new (S.moment shelf.new)) }
     ensures tells { Tells (S.holds shelf.old) (S.holds shelf.new) }
     ensures texts { T.held texts.new ≡ T.held texts.old }
 {
@@ -151,6 +154,8 @@ pub fn run<T: Texts, S: Shelf + Send, K: Sink>(
 ) -> Outcome<S>
     ensures stored { (h : List Text) → T.held texts.old ≡ Some h
         → AreStored (take result.finished (frames_in (plan_of (map string_bytes words.now)))) h (S.holds result.shelf) }
+    ensures durable { (h : List Text) → T.held texts.old ≡ Some h
+        → AreStored (take result.finished (frames_in (plan_of (map string_bytes words.now)))) h (S.images result.shelf (S.moment result.shelf)) }
     ensures caused { (h : List Text) → T.held texts.old ≡ Some h
         → IsCausedBy (IsVerdict (map string_bytes words.now) h) result.fault }
     ensures complete { (h : List Text) → T.held texts.old ≡ Some h
@@ -162,6 +167,8 @@ pub fn run<T: Texts, S: Shelf + Send, K: Sink>(
     ensures shelf_fault { result.fault ≡ Fault.ShelfFault → Rose (S.faults shelf) (S.faults result.shelf) }
     ensures others { SameBesides (take (reached_by result.fault result.finished) (frames_in (plan_of (map string_bytes words.now))))
         (S.holds shelf) (S.holds result.shelf) }
+    ensures crash_others { SameBesides (take (reached_by result.fault result.finished) (frames_in (plan_of (map string_bytes words.now))))
+        (S.images shelf (S.moment shelf)) (S.images result.shelf (S.moment result.shelf)) }
     ensures tells { Tells (S.holds shelf) (S.holds result.shelf) }
     ensures texts { T.held texts.new ≡ T.held texts.old }
     ensures said { Says (K.written messages.old) (K.written messages.new)

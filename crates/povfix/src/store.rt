@@ -14,8 +14,11 @@ pub fn store<S: Shelf>(
     file: &[u8],
 ) -> Result<(), HoldFail>
     ensures stored { OnOk result ((c : List ℕ) → S.holds shelf.new name.now c → c ≡ file.now) }
+    ensures durable { OnOk result ((c : List ℕ) → S.images shelf.new (S.moment shelf.new) name.now c → c ≡ file.now) }
     ensures memory { IsErrOf result HoldFail.NoMemory → SameContents (S.holds shelf.old) (S.holds shelf.new) }
+    ensures crash_memory { IsErrOf result HoldFail.NoMemory → SameContents (S.images shelf.old (S.moment shelf.old)) (S.images shelf.new (S.moment shelf.new)) }
     ensures others { SameOthers name.now (S.holds shelf.old) (S.holds shelf.new) }
+    ensures crash_others { SameOthers name.now (S.images shelf.old (S.moment shelf.old)) (S.images shelf.new (S.moment shelf.new)) }
     ensures tells { Tells (S.holds shelf.old) (S.holds shelf.new) }
     ensures cause { HasCause (S.faults shelf.old) (S.faults shelf.new) (IsErrOf result HoldFail.Failed) }
 {
@@ -35,7 +38,9 @@ fn write_whole<S: Shelf>(shelf: &mut S, slot: u32, file: &[u8]) -> Result<(), Fa
     requires held { IsSome (S.slots shelf.old slot) }
     requires fits { length file.now ≤ most_at (S.slots shelf.old slot) }
     ensures stored { OnOk result ((c : List ℕ) → S.holds shelf.new (name_at (S.slots shelf.old slot)) c → c ≡ file.now) }
+    ensures durable { OnOk result ((c : List ℕ) → S.images shelf.new (S.moment shelf.new) (name_at (S.slots shelf.old slot)) c → c ≡ file.now) }
     ensures others { SameOthers (name_at (S.slots shelf.old slot)) (S.holds shelf.old) (S.holds shelf.new) }
+    ensures crash_others { SameOthers (name_at (S.slots shelf.old slot)) (S.images shelf.old (S.moment shelf.old)) (S.images shelf.new (S.moment shelf.new)) }
     ensures tells { Tells (S.holds shelf.old) (S.holds shelf.new) }
     ensures cause { HasCause (S.faults shelf.old) (S.faults shelf.new) (IsErr result) }
 {

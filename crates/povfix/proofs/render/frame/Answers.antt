@@ -11,14 +11,14 @@ use Rattle.povfix.proofs.render.frame.Goals as goal
 pub returns-in_err-limit-clause-end : goal.returns-in_err-limit-clause-end
 returns-in_err-limit-clause-end g c =
     exit _ _ _ c.from_residual-in_err-limit.ensures.1
-    (long_ends _ _ _ _ _ _ _ c.in_ok-text.text.items
+    (long_ends _ _ _ _ _ _ _ _ c.in_ok-text.text.items
     (λ h held. subst (λ name. text_of h name ≡ Some c.in_ok-text.text.items) c.bytes-name.ensures (c.in_ok-text.ensures.text h held))
     _ (long_at _ _ _ _ _ c.bytes-name.ensures c.deref.ensures.value c.in_err-limit.ensures.fault))
 
 pub returns-in_err-tokens-clause-end : goal.returns-in_err-tokens-clause-end
 returns-in_err-tokens-clause-end g c =
     exit _ _ _ c.from_residual-in_err-tokens.ensures.1
-    (lexed_ends _ _ _ _ _ _ _ c.in_ok-text.text.items
+    (lexed_ends _ _ _ _ _ _ _ _ c.in_ok-text.text.items
     (λ h held. subst (λ name. text_of h name ≡ Some c.in_ok-text.text.items) c.bytes-name.ensures (c.in_ok-text.ensures.text h held))
     _ (within_at _ _ _ _ c.bytes-name.ensures c.deref.ensures.value c.in_ok-limit.ensures.within)
     (λ some. sym (ap (tokens_of 0) c.deref-2.ensures.value) ∙ c.in_err-tokens.ensures.fault some))
@@ -26,7 +26,7 @@ returns-in_err-tokens-clause-end g c =
 pub returns-in_err-scene-clause-end : goal.returns-in_err-scene-clause-end
 returns-in_err-scene-clause-end g c =
     exit _ _ _ c.from_residual-in_err-scene.ensures.1
-    (parsed_ends _ _ _ _ _ _ _ c.in_ok-text.text.items
+    (parsed_ends _ _ _ _ _ _ _ _ c.in_ok-text.text.items
     (λ h held. subst (λ name. text_of h name ≡ Some c.in_ok-text.text.items) c.bytes-name.ensures (c.in_ok-text.ensures.text h held))
     c.in_ok-tokens.tokens.items _
     (within_at _ _ _ _ c.bytes-name.ensures c.deref.ensures.value c.in_ok-limit.ensures.within)
@@ -49,7 +49,7 @@ draw-requires-clause-few g c =
 pub returns-in_err-store-clause-end : goal.returns-in_err-store-clause-end
 returns-in_err-store-clause-end g c =
     exit _ _ _ c.from_residual-in_err-store.ensures.1
-    (stored_ends _ _ _ _ _ _ _ _ c.in_err-store.field-0.0
+    (stored_ends _ _ _ _ _ _ _ _ _ _ c.in_err-store.field-0.0
     (drawn_verdict _ _ c.in_ok-text.text.items
     (λ h held. subst (λ name. text_of h name ≡ Some c.in_ok-text.text.items) c.bytes-name.ensures (c.in_ok-text.ensures.text h held))
     c.in_ok-tokens.tokens.items _ _ c.in_ok-file.file.items
@@ -59,7 +59,8 @@ returns-in_err-store-clause-end g c =
     c.in_ok-picture.ensures
     (c.in_ok-file.ensures ∙ ap (file_of Ppm c.args.plan.now.width c.args.plan.now.height 8) c.deref-4.ensures.value))
     (λ e. c.in_err-store.ensures.cause.rose (ap (λ fail. Err fail) e))
-    (λ e. c.in_err-store.ensures.memory (ap (λ fail. Err fail) e)))
+    (λ e. c.in_err-store.ensures.memory (ap (λ fail. Err fail) e))
+    (λ e. c.in_err-store.ensures.crash_memory (ap (λ fail. Err fail) e)))
 
 pub returns-clause-drawn : goal.returns-clause-drawn
 returns-clause-drawn g c =
