@@ -1,6 +1,6 @@
 -- What a level reads one depth further in, and chains of operands.
 use Rattle.std.proofs.Common.{ℕ, zero, suc, subst, sym, ap, ◌∙◌, ◌≢◌, length, length-append, ◌≤◌, Bool, MatchBool, ◌+◌, ◌-◌, ◌<◌, ◌≡◌, refl, arith, nat_eq, true, false, List, Option, Some, None, Result, Ok, Err, ◌∷◌, [], ◌++◌}
-use Rattle.std.specs.Prelude.{slice_get}
+use Rattle.std.specs.Prelude.{slice_get, if◌then◌else◌}
 use Rattle.std.specs.Result.{IfErr, IsErrAnd}
 use Rattle.std.proofs.lemmas.Option.{slice_get_within}
 use Rattle.scene_expr.specs.declared.words.Arity.{Arity}
@@ -13,7 +13,7 @@ use Rattle.scene_expr.specs.declared.value.Trouble.{Trouble}
 use Rattle.scene_expr.specs.declared.heads.Opener.{Opener}
 use Rattle.scene_expr.specs.declared.operators.Operator.{Operator}
 use Rattle.scene_expr.specs.Then.{IsThen}
-use Rattle.scene_expr.specs.Grammar.{Read, Outcome, Reading, Inner, inner, IsChoice, IsSum, IsFactor, IsOpened, IsOpening, IsBranched, IsRest, IsTakenIn, IsCompared, IsAsked, IsRow, Row, goes_on, is_below, made}
+use Rattle.scene_expr.specs.Grammar.{Read, Outcome, Reading, Inner, inner, IsChoice, IsSum, IsFactor, IsOpened, IsOpening, IsBranched, IsRest, IsTakenIn, IsTier, tier_operator, is_repeated, IsAsked, IsRow, Row, goes_on, is_below, made}
 use Rattle.scene_expr.specs.Heads.{sign_at, sign_of, place_at, channel_at, meaning_of}
 use Rattle.scene_expr.specs.Operators.{applied}
 use Rattle.scene_expr.specs.Words.{channel_of}
@@ -60,19 +60,86 @@ settled_fault (Err Trouble.Range) called place f trouble fault some next = ap (�
 settled_fault (Err Trouble.NoMemory) called place f trouble fault some next =
     let memory : ExprFault.NoMemory ≡ f = cc (fault next) in absurd (some (sym memory))
 
--- ---- a chain of operands
+-- ---- tiers of operators
+
+abbrev pub tiers_of : List Token → Settings → ℕ → ℕ → Reading
+tiers_of tokens set depths tier = at_depths (IsTier tier) tokens set depths
+
+-- what comes of what is read up to a tier, where so many further tiers follow
+abbrev pub Behind : List Token → (ℕ → Reading) → ℕ → ℕ → Read → Outcome → Type 0
+Behind tokens tiers tier zero left r = r ≡ Ok left
+Behind tokens tiers tier (suc more) left r = IsThen Read Read ExprFault (IsRest tokens tier (tiers tier) left) (Behind tokens tiers (suc tier) more) r
+
+-- a first part, then a second, then a third, taken together from the left
+regrouped : {A B C E : Type 0} {first : Result A E → Type 0} {second : A → Result B E → Type 0} {third : B → Result C E → Type 0} {r : Result C E} →
+    IsThen A C E first (λ a. IsThen B C E (second a) third) r → IsThen B C E (IsThen A B E first second) third r
+regrouped (IsThen.fault f p) = IsThen.fault f (IsThen.fault f p)
+regrouped (IsThen.found a r p (IsThen.fault f q)) = IsThen.fault f (IsThen.found a (Err f) p q)
+regrouped (IsThen.found a r p (IsThen.found b _ q rest)) = IsThen.found b r (IsThen.found a (Ok b) p q) rest
+
+-- a tier and what is behind it are the highest tier
+pub whole : (tokens : List Token) (set : Settings) (depths more tier top at : ℕ) (r : Outcome) → more + tier ≡ top →
+    IsThen Read Read ExprFault (tiers_of tokens set depths tier at) (Behind tokens (tiers_of tokens set depths) tier more) r → tiers_of tokens set depths top at r
+whole tokens set depths zero tier top at r is (IsThen.fault f p) =
+    let same : tier ≡ top = omega arith in subst (λ t. tiers_of tokens set depths t at (Err f)) same p
+whole tokens set depths zero tier top at r is (IsThen.found left _ p e) =
+    let same : tier ≡ top = omega arith in
+    subst (λ t. tiers_of tokens set depths t at r) same (subst (tiers_of tokens set depths tier at) (sym e) p)
+whole tokens set depths (suc more) tier top at r is read = whole tokens set depths more (suc tier) top at r (omega arith) (regrouped read)
+
+-- no operator of the tier follows
+pub behind_alone : (tokens : List Token) (tiers : ℕ → Reading) (tier top : ℕ) (left : Read) (r : Outcome) → tier < top → tier_operator tier (sign_at tokens left.next) ≡ None →
+    Behind tokens tiers (tier + 1) (top - (tier + 1)) left r → Behind tokens tiers tier (top - tier) left r
+behind_alone tokens tiers tier top left r below none rest =
+    let more : top - tier ≡ suc (top - (tier + 1)) = omega arith in
+    let next : tier + 1 ≡ suc tier = omega arith in
+    subst (λ m. Behind tokens tiers tier m left r) (sym more)
+    (IsThen.found left r (IsRest.alone left none) (subst (λ t. Behind tokens tiers t (top - (tier + 1)) left r) next rest))
+
+-- an operator stops the whole
+behind_stopped : (tokens : List Token) (tiers : ℕ → Reading) (tier top : ℕ) (left : Read) (f : ExprFault) → tier < top → IsRest tokens tier (tiers tier) left (Err f) →
+    Behind tokens tiers tier (top - tier) left (Err f)
+behind_stopped tokens tiers tier top left f below stop =
+    let more : top - tier ≡ suc (top - (tier + 1)) = omega arith in
+    subst (λ m. Behind tokens tiers tier m left (Err f)) (sym more) (IsThen.fault f stop)
 
 -- the right side is at fault
-pub right_fault : (tokens : List Token) (signs : ℕ → Option Operator) (operand : Reading) (left : Read) (operator : Operator) (f : ExprFault) → signs (sign_at tokens left.next) ≡ Some operator → operand (left.next + 1) (Err f) → IsRest tokens signs operand left (Err f)
-right_fault tokens signs operand left operator f sign fault = IsRest.stops left operator f sign (IsThen.fault f fault)
+pub right_fault : (tokens : List Token) (tiers : ℕ → Reading) (tier top : ℕ) (left : Read) (operator : Operator) (f : ExprFault) → tier < top → tier_operator tier (sign_at tokens left.next) ≡ Some operator →
+    tiers tier (left.next + 1) (Err f) → Behind tokens tiers tier (top - tier) left (Err f)
+right_fault tokens tiers tier top left operator f below sign fault =
+    behind_stopped tokens tiers tier top left f below (IsRest.stops left operator f sign (IsThen.fault f fault))
 
 -- the operator takes no such sides
-pub refused : (tokens : List Token) (signs : ℕ → Option Operator) (operand : Reading) (left right : Read) (operator : Operator) (f : ExprFault) → signs (sign_at tokens left.next) ≡ Some operator → operand (left.next + 1) (Ok right) → made (applied operator left.value right.value) (place_at tokens left.next) right.next ≡ Err f → IsRest tokens signs operand left (Err f)
-refused tokens signs operand left right operator f sign found fault = IsRest.stops left operator f sign (IsThen.found right (Err f) found (sym fault))
+pub refused : (tokens : List Token) (tiers : ℕ → Reading) (tier top : ℕ) (left right : Read) (operator : Operator) (f : ExprFault) → tier < top → tier_operator tier (sign_at tokens left.next) ≡ Some operator →
+    tiers tier (left.next + 1) (Ok right) → made (applied operator left.value right.value) (place_at tokens left.next) right.next ≡ Err f → Behind tokens tiers tier (top - tier) left (Err f)
+refused tokens tiers tier top left right operator f below sign found fault =
+    behind_stopped tokens tiers tier top left f below (IsRest.stops left operator f sign (IsThen.found right (Err f) found (sym fault)))
 
 -- the operator makes a further left side
-pub further : (tokens : List Token) (signs : ℕ → Option Operator) (operand : Reading) (left right read : Read) (operator : Operator) (r : Outcome) → signs (sign_at tokens left.next) ≡ Some operator → operand (left.next + 1) (Ok right) → made (applied operator left.value right.value) (place_at tokens left.next) right.next ≡ Ok read → IsRest tokens signs operand read r → IsRest tokens signs operand left r
-further tokens signs operand left right read operator r sign found ok rest = IsRest.further left operator read r sign (IsThen.found right (Ok read) found (sym ok)) rest
+pub took : (tokens : List Token) (tiers : ℕ → Reading) (tier next top : ℕ) (left right read : Read) (operator : Operator) (r : Outcome) → tier < top → next ≡ (if is_repeated tier then tier else tier + 1) →
+    tier_operator tier (sign_at tokens left.next) ≡ Some operator → tiers tier (left.next + 1) (Ok right) → made (applied operator left.value right.value) (place_at tokens left.next) right.next ≡ Ok read →
+    Behind tokens tiers next (top - next) read r → Behind tokens tiers tier (top - tier) left r
+took tokens tiers tier next top left right read operator r below is sign found ok rest = by (is_repeated tier) refl is
+  where
+    taken : IsTakenIn tokens (tiers tier) operator left (Ok read)
+    taken = IsThen.found right (Ok read) found (sym ok)
+
+    joined : is_repeated tier ≡ true → (K : Read → Outcome → Type 0) (o : Outcome) → IsThen Read Read ExprFault (IsRest tokens tier (tiers tier) read) K o → IsThen Read Read ExprFault (IsRest tokens tier (tiers tier) left) K o
+    joined repeated K o (IsThen.fault f p) = IsThen.fault f (IsRest.further left operator read (Err f) sign taken repeated p)
+    joined repeated K o (IsThen.found w _ p k) = IsThen.found w o (IsRest.further left operator read (Ok w) sign taken repeated p) k
+
+    by : (b : Bool) → is_repeated tier ≡ b → next ≡ (if b then tier else tier + 1) → Behind tokens tiers tier (top - tier) left r
+    by true repeated same =
+        let more : top - tier ≡ suc (top - (tier + 1)) = omega arith in
+        subst (λ m. Behind tokens tiers tier m left r) (sym more)
+        (joined repeated (Behind tokens tiers (suc tier) (top - (tier + 1))) r
+        (subst (λ m. Behind tokens tiers tier m read r) more (subst (λ t. Behind tokens tiers t (top - t) read r) same rest)))
+    by false once same =
+        let more : top - tier ≡ suc (top - (tier + 1)) = omega arith in
+        let after : tier + 1 ≡ suc tier = omega arith in
+        subst (λ m. Behind tokens tiers tier m left r) (sym more)
+        (IsThen.found read r (IsRest.once left operator read sign taken once)
+        (subst (λ t. Behind tokens tiers t (top - (tier + 1)) read r) after (subst (λ t. Behind tokens tiers t (top - t) read r) same rest)))
 
 -- ---- a sign or a word stands before the end
 
@@ -80,8 +147,11 @@ behind_end : (signs : ℕ → Option Operator) (operator : Operator) (tokens : L
 behind_end signs operator tokens at None is none some = absurd (cc)
 behind_end signs operator tokens at (Some token) is none some = slice_get_within tokens at token is
 
-pub operator_within : (signs : ℕ → Option Operator) (operator : Operator) (tokens : List Token) (at : ℕ) → signs 0 ≡ None → signs (sign_at tokens at) ≡ Some operator → at < length tokens
-operator_within signs operator tokens at none some = behind_end signs operator tokens at (slice_get tokens at) refl none some
+pub operator_within : (tier : ℕ) (operator : Operator) (tokens : List Token) (at : ℕ) → tier < 4 → tier_operator tier (sign_at tokens at) ≡ Some operator → at < length tokens
+operator_within zero operator tokens at below some = behind_end (tier_operator 0) operator tokens at (slice_get tokens at) refl refl some
+operator_within (suc zero) operator tokens at below some = behind_end (tier_operator 1) operator tokens at (slice_get tokens at) refl refl some
+operator_within (suc (suc zero)) operator tokens at below some = behind_end (tier_operator 2) operator tokens at (slice_get tokens at) refl refl some
+operator_within (suc (suc (suc tier))) operator tokens at below some = behind_end (tier_operator (suc (suc (suc tier)))) operator tokens at (slice_get tokens at) refl refl some
 
 channel_before_end : (channel : Channel) (tokens : List Token) (at : ℕ) (token : Option Token) → slice_get tokens at ≡ token → meaning_of channel_of token ≡ Some channel → at < length tokens
 channel_before_end channel tokens at None is some = absurd (cc)
@@ -97,13 +167,7 @@ sign_before_end tokens at (Some token) is some = slice_get_within tokens at toke
 pub sign_within : (tokens : List Token) (at : ℕ) → 0 < sign_at tokens at → at < length tokens
 sign_within tokens at some = sign_before_end tokens at (slice_get tokens at) refl some
 
--- ---- comparisons and choices
-
-pub with_sign : (tokens : List Token) (operand : Reading) (left : Read) (found : Option Operator) (operator : Operator) (r : Outcome) → found ≡ Some operator → IsTakenIn tokens operand operator left r → IsCompared tokens operand left found r
-with_sign tokens operand left found operator r is taken = subst (λ sign. IsCompared tokens operand left sign r) (sym is) taken
-
-pub without_sign : (tokens : List Token) (operand : Reading) (left : Read) (found : Option Operator) → found ≡ None → IsCompared tokens operand left found (Ok left)
-without_sign tokens operand left found is = subst (λ sign. IsCompared tokens operand left sign (Ok left)) (sym is) refl
+-- ---- choices
 
 pub unasked : (tokens : List Token) (full : Bool) (inside : Inner → Reading) (condition : Read) → nat_eq (sign_at tokens condition.next) 63 ≡ false → IsAsked tokens full inside condition (Ok condition)
 unasked tokens full inside condition none =

@@ -1,5 +1,5 @@
 -- The expressions, by levels from tight to loose, each with its value or its first fault. (Reference manual, expressions)
-use Rattle.std.specs.Prelude.{ℕ, zero, suc, ◌+◌, ℤ, ◌≡◌, Bool, true, false, MatchBool, ◌&&◌, nat_eq, nat_lt, List, [], ◌∷◌, ◌++◌, length, Option, Some, None, Result, Ok, Err, if◌then◌else◌}
+use Rattle.std.specs.Prelude.{ℕ, zero, suc, ◌+◌, ℤ, ◌≡◌, Bool, true, false, not, MatchBool, ◌&&◌, nat_eq, nat_lt, List, [], ◌∷◌, ◌++◌, length, Option, Some, None, Result, Ok, Err, if◌then◌else◌}
 use Rattle.scene_lexer.specs.declared.token.Place.{Place}
 use Rattle.scene_lexer.specs.declared.token.Token.{Token}
 use Rattle.scene_lexer.specs.declared.sign.TheConstants.{OPEN_BRACKET, CLOSE_BRACKET, GREATER, COMMA, COLON, QUESTION, DOT}
@@ -9,6 +9,7 @@ use Rattle.scene_expr.specs.declared.value.Settings.{Settings}
 use Rattle.scene_expr.specs.declared.value.Trouble.{Trouble}
 use Rattle.scene_expr.specs.declared.value.Value.{Value}
 use Rattle.scene_expr.specs.declared.heads.Head.{Head}
+use Rattle.scene_expr.specs.declared.heads.Mark.{Mark}
 use Rattle.scene_expr.specs.declared.heads.Opener.{Opener}
 use Rattle.scene_expr.specs.declared.operators.Operator.{Operator}
 use Rattle.scene_expr.specs.declared.words.Arity.{Arity}
@@ -48,27 +49,30 @@ abbrev pub IsOpened : Bool → Place → (Outcome → Type 0) → Outcome → Ty
 IsOpened true place body r = r ≡ Err (ExprFault.Range place)
 IsOpened false place body r = body r
 
--- ---- operators of one level, from left to right
+-- ---- operators of one tier, from left to right
+
+-- the operators of a tier, from tight to loose: products, sums, comparisons, connections
+abbrev pub tier_operator : ℕ → ℕ → Option Operator
+tier_operator zero = term_operator
+tier_operator (suc zero) = sum_operator
+tier_operator (suc (suc zero)) = comparison
+tier_operator (suc (suc (suc tier))) = connective
+
+-- a comparison isn't compared again
+abbrev pub is_repeated : ℕ → Bool
+is_repeated tier = not (nat_eq tier 2)
 
 -- the right side is read, and the operator applied
 abbrev pub IsTakenIn : List Token → Reading → Operator → Read → Outcome → Type 0
 IsTakenIn tokens operand operator left r =
     IsThen Read Read ExprFault (operand (left.next + 1)) (λ right. Is (made (applied operator left.value right.value) (place_at tokens left.next) right.next)) r
 
--- what comes of a left side: it stands alone where no sign of this level follows
-pub data IsRest (tokens : List Token) (signs : ℕ → Option Operator) (operand : Reading) : Read → Outcome → Type 0 where
-  alone : (left : Read) → signs (sign_at tokens left.next) ≡ None → IsRest tokens signs operand left (Ok left)
-  stops : (left : Read) (operator : Operator) (f : ExprFault) → signs (sign_at tokens left.next) ≡ Some operator → IsTakenIn tokens operand operator left (Err f) → IsRest tokens signs operand left (Err f)
-  further : (left : Read) (operator : Operator) (read : Read) (r : Outcome) → signs (sign_at tokens left.next) ≡ Some operator → IsTakenIn tokens operand operator left (Ok read) → IsRest tokens signs operand read r → IsRest tokens signs operand left r
-
--- an operand, or a chain of operands with signs of this level between them
-abbrev pub IsChain : List Token → (ℕ → Option Operator) → Reading → Reading
-IsChain tokens signs operand at r = IsThen Read Read ExprFault (operand at) (IsRest tokens signs operand) r
-
--- a left side alone, or one sign and one right side
-abbrev pub IsCompared : List Token → Reading → Read → Option Operator → Outcome → Type 0
-IsCompared tokens operand left None r = r ≡ Ok left
-IsCompared tokens operand left (Some operator) r = IsTakenIn tokens operand operator left r
+-- what comes of a left side: it stands alone where no operator of this tier follows
+pub data IsRest (tokens : List Token) (tier : ℕ) (operand : Reading) : Read → Outcome → Type 0 where
+  alone : (left : Read) → tier_operator tier (sign_at tokens left.next) ≡ None → IsRest tokens tier operand left (Ok left)
+  stops : (left : Read) (operator : Operator) (f : ExprFault) → tier_operator tier (sign_at tokens left.next) ≡ Some operator → IsTakenIn tokens operand operator left (Err f) → IsRest tokens tier operand left (Err f)
+  once : (left : Read) (operator : Operator) (read : Read) → tier_operator tier (sign_at tokens left.next) ≡ Some operator → IsTakenIn tokens operand operator left (Ok read) → is_repeated tier ≡ false → IsRest tokens tier operand left (Ok read)
+  further : (left : Read) (operator : Operator) (read : Read) (r : Outcome) → tier_operator tier (sign_at tokens left.next) ≡ Some operator → IsTakenIn tokens operand operator left (Ok read) → is_repeated tier ≡ true → IsRest tokens tier operand read r → IsRest tokens tier operand left r
 
 -- ---- parts divided by commas
 
@@ -126,10 +130,16 @@ pub data Inner : Type 0 where
   Sum : Inner
   Factor : Inner
 
+-- what a sign or a colour word makes of the factor behind it
+abbrev pub marked : Mark → Value → Result Value Trouble
+marked (Mark.Sign sign) value = prefixed sign value
+marked Mark.Colour value = as_colour value
+marked (Mark.Form form) value = formed form value
+
 -- what each token that opens a depth begins
 abbrev pub IsOpening : List Token → (Inner → Reading) → Opener → Reading
-IsOpening tokens inside (Opener.Prefix sign) at r =
-    IsThen Read Read ExprFault (inside Factor (at + 1)) (λ read. Is (made (prefixed sign read.value) (place_at tokens at) read.next)) r
+IsOpening tokens inside (Opener.Mark mark) at r =
+    IsThen Read Read ExprFault (inside Factor (at + 1)) (λ read. Is (made (marked mark read.value) (place_at tokens at) read.next)) r
 IsOpening tokens inside Opener.Bracket at r =
     IsThen Read Read ExprFault (inside Choice (at + 1)) (λ read. IsThen ℕ Read ExprFault (Is (passed CLOSE_BRACKET tokens read.next)) (λ next. Is (Ok (record { value = read.value; next = next })))) r
 IsOpening tokens inside Opener.Angle at r =
@@ -138,10 +148,6 @@ IsOpening tokens inside (Opener.Call call) at r =
     IsThen ℕ Read ExprFault (Is (passed OPEN_BRACKET tokens (at + 1))) (λ start.
     IsThen Row Read ExprFault (IsRow tokens (inside Choice) (arity_of call) [] start) (λ row.
     IsThen ℕ Read ExprFault (Is (passed CLOSE_BRACKET tokens row.next)) (λ next. Is (made (called call row.values) (place_at tokens at) next)))) r
-IsOpening tokens inside Opener.Colour at r =
-    IsThen Read Read ExprFault (inside Factor (at + 1)) (λ read. Is (made (as_colour read.value) (place_at tokens at) read.next)) r
-IsOpening tokens inside (Opener.Form form) at r =
-    IsThen Read Read ExprFault (inside Factor (at + 1)) (λ read. Is (made (formed form read.value) (place_at tokens at) read.next)) r
 IsOpening tokens inside Opener.Channels at r = IsChannels tokens (inside Sum) black at r
 
 -- the second and the third part of a choice, behind its condition
@@ -167,18 +173,19 @@ abbrev pub IsFactor : List Token → Settings → Bool → (Inner → Reading) �
 IsFactor tokens set full inside at r =
     IsThen Read Read ExprFault (IsBare tokens set full inside (head_at tokens at) at) (IsDotted tokens) r
 
-abbrev pub IsTerm : List Token → Settings → Bool → (Inner → Reading) → Reading
-IsTerm tokens set full inside = IsChain tokens term_operator (IsFactor tokens set full inside)
+-- a factor, or operands with so many tiers of operators between them
+abbrev pub IsTier : ℕ → List Token → Settings → Bool → (Inner → Reading) → Reading
+IsTier zero tokens set full inside at r = IsFactor tokens set full inside at r
+IsTier (suc tier) tokens set full inside at r =
+    IsThen Read Read ExprFault (IsTier tier tokens set full inside at) (IsRest tokens tier (IsTier tier tokens set full inside)) r
 
+-- products and sums
 abbrev pub IsSum : List Token → Settings → Bool → (Inner → Reading) → Reading
-IsSum tokens set full inside = IsChain tokens sum_operator (IsTerm tokens set full inside)
+IsSum tokens set full inside = IsTier 2 tokens set full inside
 
-abbrev pub IsComparison : List Token → Settings → Bool → (Inner → Reading) → Reading
-IsComparison tokens set full inside at r =
-    IsThen Read Read ExprFault (IsSum tokens set full inside at) (λ left. IsCompared tokens (IsSum tokens set full inside) left (comparison (sign_at tokens left.next))) r
-
+-- comparisons and connections too
 abbrev pub IsConnection : List Token → Settings → Bool → (Inner → Reading) → Reading
-IsConnection tokens set full inside = IsChain tokens connective (IsComparison tokens set full inside)
+IsConnection tokens set full inside = IsTier 4 tokens set full inside
 
 -- behind the condition: a question mark opens a depth for what follows it
 abbrev pub IsAsked : List Token → Bool → (Inner → Reading) → Read → Outcome → Type 0

@@ -6,6 +6,7 @@ use Rattle.scene_lexer.specs.declared.token.Token.{Token}
 use Rattle.scene_lexer.specs.declared.sign.TheConstants.{OPEN_BRACKET, LESS}
 use Rattle.scene_expr.specs.declared.value.ExprFault.{ExprFault}
 use Rattle.scene_expr.specs.declared.heads.Head.{Head}
+use Rattle.scene_expr.specs.declared.heads.Mark.{Mark}
 use Rattle.scene_expr.specs.declared.heads.Opener.{Opener}
 use Rattle.scene_expr.specs.declared.operators.Prefix.{Prefix}
 use Rattle.scene_expr.specs.declared.words.Channel.{Channel}
@@ -70,7 +71,7 @@ component_at tokens at = meaning_of component_of (slice_get tokens at)
 
 abbrev pub prefix_head : Option Prefix → Head
 prefix_head None = Head.Nothing
-prefix_head (Some sign) = Head.Opener (Opener.Prefix sign)
+prefix_head (Some sign) = Head.Opener (Opener.Mark (Mark.Sign sign))
 
 abbrev pub sign_head : ℕ → Head
 sign_head sign =
@@ -81,8 +82,8 @@ abbrev pub word_head : Option Word → Head
 word_head None = Head.Unknown
 word_head (Some (Word.Constant constant)) = Head.Constant constant
 word_head (Some (Word.Call call)) = Head.Opener (Opener.Call call)
-word_head (Some Word.Colour) = Head.Opener Opener.Colour
-word_head (Some (Word.Form form)) = Head.Opener (Opener.Form form)
+word_head (Some Word.Colour) = Head.Opener (Opener.Mark Mark.Colour)
+word_head (Some (Word.Form form)) = Head.Opener (Opener.Mark (Mark.Form form))
 word_head (Some (Word.Channel channel)) = Head.Opener Opener.Channels
 
 abbrev pub kind_head : Kind → Head

@@ -15,11 +15,10 @@ use Rattle.scene_expr.specs.declared.words.Arity.{Arity}
 use Rattle.scene_expr.specs.declared.words.Channel.{Channel}
 use Rattle.scene_expr.specs.Colours.{black, with_channel}
 use Rattle.scene_expr.specs.Heads.{place_at, sign_at, channel_at, component_at, head_at}
-use Rattle.scene_expr.specs.Operators.{sum_operator, term_operator, comparison, connective}
 use Rattle.scene_expr.specs.Then.{IsThen, Is, IsOne, one_is, then_fault, then_found, one_then}
 use Rattle.scene_expr.specs.Values.{fault_at}
 use Rattle.scene_expr.specs.Words.{arity_of}
-use Rattle.scene_expr.specs.Grammar.{Read, Outcome, Reading, IsOpened, IsTakenIn, IsRest, IsChain, IsCompared, Row, goes_on, IsRow, angle_arity, IsChannels, with_component, IsDotted, Inner, IsOpening, IsBranched, IsBare, IsFactor, IsTerm, IsSum, IsComparison, IsConnection, IsAsked, IsChoice, inner, inner_of, IsValue}
+use Rattle.scene_expr.specs.Grammar.{Read, Outcome, Reading, IsOpened, tier_operator, is_repeated, IsTakenIn, IsRest, Row, goes_on, IsRow, angle_arity, IsChannels, with_component, IsDotted, Inner, IsOpening, IsBranched, IsBare, IsFactor, IsTier, IsAsked, IsChoice, inner, inner_of, IsValue}
 
 -- what comes to one outcome at most from each token on
 abbrev pub IsOneReading : Reading → Type 0
@@ -31,31 +30,33 @@ one_opened false place body one r s p q = one r s p q
 
 -- ---- operators of one level
 
-module _ (tokens : List Token) (signs : ℕ → Option Operator) (operand : Reading) (one : IsOneReading operand) where
+module _ (tokens : List Token) (tier : ℕ) (operand : Reading) (one : IsOneReading operand) where
   one_taken : (operator : Operator) (left : Read) → IsOne (IsTakenIn tokens operand operator left)
   one_taken operator left = one_then (one (left.next + 1)) (λ right. one_is _)
+
+  -- what comes behind an operator, by whether a further one may stand there
+  abbrev IsGoneOn : Bool → Read → Outcome → Type 0
+  IsGoneOn false read r = r ≡ Ok read
+  IsGoneOn true read r = IsRest tokens tier operand read r
 
   -- what comes of a left side, by the sign behind it
   abbrev IsBehind : Read → Option Operator → Outcome → Type 0
   IsBehind left None r = r ≡ Ok left
-  IsBehind left (Some operator) r = IsThen Read Read ExprFault (IsTakenIn tokens operand operator left) (IsRest tokens signs operand) r
+  IsBehind left (Some operator) r = IsThen Read Read ExprFault (IsTakenIn tokens operand operator left) (IsGoneOn (is_repeated tier)) r
 
-  rest_parts : (left : Read) (sign : Option Operator) (r : Outcome) → signs (sign_at tokens left.next) ≡ sign → IsRest tokens signs operand left r → IsBehind left sign r
+  rest_parts : (left : Read) (sign : Option Operator) (r : Outcome) → tier_operator tier (sign_at tokens left.next) ≡ sign → IsRest tokens tier operand left r → IsBehind left sign r
   rest_parts left sign r e (IsRest.alone _ is) = subst (λ o. IsBehind left o r) (sym is ∙ e) refl
   rest_parts left sign r e (IsRest.stops _ operator f is taken) = subst (λ o. IsBehind left o r) (sym is ∙ e) (IsThen.fault f taken)
-  rest_parts left sign r e (IsRest.further _ operator read _ is taken rest) = subst (λ o. IsBehind left o r) (sym is ∙ e) (IsThen.found read r taken rest)
+  rest_parts left sign r e (IsRest.once _ operator read is taken lone) = subst (λ o. IsBehind left o r) (sym is ∙ e) (IsThen.found read r taken (subst (λ b. IsGoneOn b read r) (sym lone) refl))
+  rest_parts left sign r e (IsRest.further _ operator read _ is taken more rest) = subst (λ o. IsBehind left o r) (sym is ∙ e) (IsThen.found read r taken (subst (λ b. IsGoneOn b read r) (sym more) rest))
 
-  one_rest : (left : Read) → IsOne (IsRest tokens signs operand left)
+  one_rest : (left : Read) → IsOne (IsRest tokens tier operand left)
   one_rest left r s (IsRest.alone _ is) q = sym (rest_parts left None s is q)
   one_rest left r s (IsRest.stops _ operator f is taken) q = then_fault (one_taken operator left) f taken (rest_parts left (Some operator) s is q)
-  one_rest left r s (IsRest.further _ operator read _ is taken rest) q = one_rest read r s rest (then_found (one_taken operator left) read taken (rest_parts left (Some operator) s is q))
-
-  one_chain : IsOneReading (IsChain tokens signs operand)
-  one_chain at = one_then (one at) one_rest
-
-one_compared : (tokens : List Token) (operand : Reading) → IsOneReading operand → (left : Read) (operator : Option Operator) → IsOne (IsCompared tokens operand left operator)
-one_compared tokens operand one left None = one_is _
-one_compared tokens operand one left (Some operator) = one_then (one (left.next + 1)) (λ right. one_is _)
+  one_rest left r s (IsRest.once _ operator read is taken lone) q =
+      sym (subst (λ b. IsGoneOn b read s) lone (then_found (one_taken operator left) read taken (rest_parts left (Some operator) s is q)))
+  one_rest left r s (IsRest.further _ operator read _ is taken more rest) q =
+      one_rest read r s rest (subst (λ b. IsGoneOn b read s) more (then_found (one_taken operator left) read taken (rest_parts left (Some operator) s is q)))
 
 -- ---- parts divided by commas
 
@@ -133,13 +134,11 @@ module _ (tokens : List Token) where
 
 module _ (tokens : List Token) (set : Settings) (full : Bool) (inside : Inner → Reading) (one : (level : Inner) → IsOneReading (inside level)) where
   one_opening : (opener : Opener) → IsOneReading (IsOpening tokens inside opener)
-  one_opening (Opener.Prefix sign) at = one_then (one Inner.Factor (at + 1)) (λ read. one_is _)
+  one_opening (Opener.Mark mark) at = one_then (one Inner.Factor (at + 1)) (λ read. one_is _)
   one_opening Opener.Bracket at = one_then (one Inner.Choice (at + 1)) (λ read. one_then (one_is _) (λ next. one_is _))
   one_opening Opener.Angle at = one_then (one_row tokens (inside Inner.Sum) angle_arity (one Inner.Sum) [] (at + 1)) (λ row. one_then (one_is _) (λ next. one_is _))
   one_opening (Opener.Call call) at =
       one_then (one_is _) (λ start. one_then (one_row tokens (inside Inner.Choice) (arity_of call) (one Inner.Choice) [] start) (λ row. one_then (one_is _) (λ next. one_is _)))
-  one_opening Opener.Colour at = one_then (one Inner.Factor (at + 1)) (λ read. one_is _)
-  one_opening (Opener.Form form) at = one_then (one Inner.Factor (at + 1)) (λ read. one_is _)
   one_opening Opener.Channels at = one_channels tokens (inside Inner.Sum) (one Inner.Sum) black at
 
   one_bare : (head : Head) → IsOneReading (IsBare tokens set full inside head)
@@ -153,17 +152,9 @@ module _ (tokens : List Token) (set : Settings) (full : Bool) (inside : Inner �
   one_factor : IsOneReading (IsFactor tokens set full inside)
   one_factor at = one_then (one_bare (head_at tokens at) at) (one_dotted tokens)
 
-  one_term : IsOneReading (IsTerm tokens set full inside)
-  one_term = one_chain tokens term_operator (IsFactor tokens set full inside) one_factor
-
-  one_sum : IsOneReading (IsSum tokens set full inside)
-  one_sum = one_chain tokens sum_operator (IsTerm tokens set full inside) one_term
-
-  one_comparison : IsOneReading (IsComparison tokens set full inside)
-  one_comparison at = one_then (one_sum at) (λ left. one_compared tokens (IsSum tokens set full inside) one_sum left (comparison (sign_at tokens left.next)))
-
-  one_connection : IsOneReading (IsConnection tokens set full inside)
-  one_connection = one_chain tokens connective (IsComparison tokens set full inside) one_comparison
+  one_tier : (tier : ℕ) → IsOneReading (IsTier tier tokens set full inside)
+  one_tier zero at = one_factor at
+  one_tier (suc tier) at = one_then (one_tier tier at) (one_rest tokens tier (IsTier tier tokens set full inside) (one_tier tier))
 
   one_branched : (condition : Read) → IsOne (IsBranched tokens (inside Inner.Choice) condition)
   one_branched condition = one_then (one Inner.Choice (condition.next + 1)) (λ first. one_then (one_is _) (λ start. one_then (one Inner.Choice start) (λ second. one_is _)))
@@ -176,7 +167,7 @@ module _ (tokens : List Token) (set : Settings) (full : Bool) (inside : Inner �
       by_test false = one_is (Ok condition)
 
   one_choice : IsOneReading (IsChoice tokens set full inside)
-  one_choice at = one_then (one_connection at) one_asked
+  one_choice at = one_then (one_tier 4 at) one_asked
 
 -- ---- depths
 
@@ -184,7 +175,7 @@ one_inner : (tokens : List Token) (set : Settings) (depths : ℕ) (level : Inner
 unfolding inner
 one_inner tokens set zero level = λ at r s p q. absurd p
 one_inner tokens set (suc depths) Inner.Choice = one_choice tokens set (nat_eq depths 0) (inner tokens set depths) (one_inner tokens set depths)
-one_inner tokens set (suc depths) Inner.Sum = one_sum tokens set (nat_eq depths 0) (inner tokens set depths) (one_inner tokens set depths)
+one_inner tokens set (suc depths) Inner.Sum = one_tier tokens set (nat_eq depths 0) (inner tokens set depths) (one_inner tokens set depths) 2
 one_inner tokens set (suc depths) Inner.Factor = one_factor tokens set (nat_eq depths 0) (inner tokens set depths) (one_inner tokens set depths)
 
 -- an expression comes to one outcome

@@ -10,18 +10,24 @@ use crate::words::{
 use fix_math::Fix;
 use scene_lexer::{Kind, Place, Token, sign};
 
+/// A sign or a word of colours before a factor.
+#[derive(Clone, Copy)]
+pub enum Mark {
+    Sign(Prefix),
+    /// `color` or `colour`.
+    Colour,
+    Form(ColourForm),
+}
+
 /// A token that opens a depth.
 #[derive(Clone, Copy)]
 pub enum Opener {
-    Prefix(Prefix),
+    Mark(Mark),
     /// `(`.
     Bracket,
     /// `<`.
     Angle,
     Call(Call),
-    /// `color` or `colour`.
-    Colour,
-    Form(ColourForm),
     /// A number of a colour, by its word.
     Channels,
 }
@@ -120,7 +126,7 @@ fn sign_head(code: u8) -> Head
         sign::OPEN_BRACKET => Head::Opener(Opener::Bracket),
         sign::LESS => Head::Opener(Opener::Angle),
         _ => match prefix_of(code) {
-            Some(sign) => Head::Opener(Opener::Prefix(sign)),
+            Some(sign) => Head::Opener(Opener::Mark(Mark::Sign(sign))),
             None => Head::Nothing,
         },
     }
@@ -133,8 +139,8 @@ fn word_head(word: Option<Word>) -> Head
         None => Head::Unknown,
         Some(Word::Constant(constant)) => Head::Constant(constant),
         Some(Word::Call(call)) => Head::Opener(Opener::Call(call)),
-        Some(Word::Colour) => Head::Opener(Opener::Colour),
-        Some(Word::Form(form)) => Head::Opener(Opener::Form(form)),
+        Some(Word::Colour) => Head::Opener(Opener::Mark(Mark::Colour)),
+        Some(Word::Form(form)) => Head::Opener(Opener::Mark(Mark::Form(form))),
         Some(Word::Channel(_)) => Head::Opener(Opener::Channels),
     }
 }

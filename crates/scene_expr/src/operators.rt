@@ -1,5 +1,6 @@
 // The operators between values, and before them. (Reference manual, operators)
-ghost use Rattle.std.specs.Prelude.{◌≡◌, ◌∷◌, [], map, neg_ℤ};
+ghost use Rattle.std.specs.Prelude.{◌≡◌, ◌<◌, ◌+◌, ◌∷◌, [], map, neg_ℤ, if◌then◌else◌};
+ghost use Rattle.scene_expr.specs.Grammar.{tier_operator, is_repeated};
 ghost use Rattle.scene_expr.specs.Values.{answer, float};
 ghost use Rattle.scene_expr.specs.Operators.{
   calculated,
@@ -407,7 +408,7 @@ pub fn chosen(condition: Value, first: Value, second: Value) -> Result<Value, Tr
     }
 }
 
-pub fn sum_operator(code: u8) -> Option<Operator>
+fn sum_operator(code: u8) -> Option<Operator>
     ensures { result ≡ sum_operator code }
 {
     if code == sign::PLUS {
@@ -419,7 +420,7 @@ pub fn sum_operator(code: u8) -> Option<Operator>
     }
 }
 
-pub fn term_operator(code: u8) -> Option<Operator>
+fn term_operator(code: u8) -> Option<Operator>
     ensures { result ≡ term_operator code }
 {
     if code == sign::TIMES {
@@ -431,7 +432,7 @@ pub fn term_operator(code: u8) -> Option<Operator>
     }
 }
 
-pub fn comparison_operator(code: u8) -> Option<Operator>
+fn comparison_operator(code: u8) -> Option<Operator>
     ensures { result ≡ comparison code }
 {
     if code == sign::EQUAL {
@@ -451,7 +452,7 @@ pub fn comparison_operator(code: u8) -> Option<Operator>
     }
 }
 
-pub fn connective_operator(code: u8) -> Option<Operator>
+fn connective_operator(code: u8) -> Option<Operator>
     ensures { result ≡ connective code }
 {
     if code == sign::AND {
@@ -461,6 +462,30 @@ pub fn connective_operator(code: u8) -> Option<Operator>
     } else {
         None
     }
+}
+
+/// The tiers of operators from tight to loose are products, sums, comparisons and connections.
+const COMPARISONS: usize = 2;
+
+/// The operator of a tier that the sign is.
+pub fn tier_operator(tier: usize, code: u8) -> Option<Operator>
+    requires { tier < 4 }
+    ensures { result ≡ tier_operator tier code }
+{
+    match tier {
+        0 => term_operator(code),
+        1 => sum_operator(code),
+        2 => comparison_operator(code),
+        _ => connective_operator(code),
+    }
+}
+
+/// The tier whose operators may stand behind an operator of this tier: a comparison isn't compared again.
+pub fn tier_behind(tier: usize) -> usize
+    requires { tier < 4 }
+    ensures { result ≡ (if is_repeated tier then tier else tier + 1) }
+{
+    if tier == COMPARISONS { tier + 1 } else { tier }
 }
 
 pub fn prefix_of(code: u8) -> Option<Prefix>

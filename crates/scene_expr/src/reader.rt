@@ -1,80 +1,154 @@
 // Expressions, read level by level over one position. (Reference manual, expressions)
+// Values are read in place, so that a depth takes little of the stack.
 ghost use Rattle.std.specs.Prelude.{◌≡◌, ◌≢◌, ◌≤◌, ◌<◌, ◌+◌, ◌∷◌, ◌++◌, ℕ, suc, nat_eq, length, [], IfOk, IfErr, OnOk, IsTrue, Ok, Err};
-ghost use Rattle.scene_expr.specs.Grammar.{goes_on, made, with_component, inner, inner_of, IsRow, IsOpening, IsBranched, IsBare, IsDotted, IsFactor, IsTerm, IsSum, IsComparison, IsConnection, IsChoice, IsValue};
+ghost use Rattle.scene_expr.specs.Grammar.{goes_on, made, marked, with_component, inner, inner_of, IsRow, IsOpening, IsBranched, IsBare, IsDotted, IsFactor, IsTier, IsChoice, IsValue};
 ghost use Rattle.scene_expr.specs.Grammar.Inner.{Choice, Sum, Factor};
 ghost use Rattle.scene_expr.specs.Calls.{called};
+ghost use Rattle.scene_expr.specs.Colours.{grouped};
 ghost use Rattle.scene_expr.specs.Heads.{component_at, head_at, place_at, text_at};
-ghost use Rattle.scene_expr.specs.Operators.{applied};
+ghost use Rattle.scene_expr.specs.Operators.{applied, chosen};
 ghost use Rattle.scene_expr.specs.Steps.{at_depths, read};
 ghost use Rattle.scene_expr.specs.Texts.{text_value};
 ghost use Rattle.scene_expr.specs.Values.{AreWhole};
+ghost use Rattle.scene_expr.specs.declared.heads.Opener.{Opener};
 ghost use Rattle.scene_expr.specs.declared.value.ExprFault.TheVariants.{NoMemory};
 
 use crate::calls::called;
 use crate::colours::{as_colour, black, formed, grouped, taken, with_channel};
 use crate::constants::constant;
 use crate::heads::{
-    Head, Opener, channel_at, component_at, head_at, passed, place_at, sign_at, text_at,
+    Head, Mark, Opener, channel_at, component_at, head_at, passed, place_at, sign_at, text_at,
 };
-use crate::operators::{
-    Operator, applied, chosen, comparison_operator, connective_operator, prefixed, sum_operator,
-    term_operator,
-};
+use crate::operators::{Operator, applied, chosen, prefixed, tier_behind, tier_operator};
 use crate::texts::text;
 use crate::value::{ExprFault, Level, Settings, Trouble, Value};
 use crate::words::{Arity, Call};
 use scene_lexer::{Token, sign};
 use smallvec::SmallVec;
 use std::alloc::Global;
+use std::mem::take;
 
 /// A token stands in at most so many brackets, calls, colours, choices and signs.
 const MOST_DEPTHS: usize = 128;
 
-/// The value, or the fault of the operator or call that stands here.
-fn settled(tokens: &[Token], outcome: Result<Value, Trouble>, at: usize) -> Result<Value, ExprFault>
-    ensures ok { IfOk result (λ value. (next : ℕ) → made outcome (place_at tokens.now at) next ≡ Ok (read value next)) }
-    ensures fault { IfErr result (λ f. (next : ℕ) → made outcome (place_at tokens.now at) next ≡ Err f) }
+/// Between `<` and `>` stand three to five numbers.
+const ANGLE: Arity = Arity {
+    least: 3,
+    most: Some(5),
+};
+
+// ---- what is made of values, in place of one of them
+
+/// Puts the value in its place, or answers the fault of the operator or call that stands here.
+fn settle(
+    tokens: &[Token],
+    outcome: Result<Value, Trouble>,
+    at: usize,
+    value: &mut Value,
+) -> Result<(), ExprFault>
+    ensures ok { OnOk result ((next : ℕ) → made (outcome) (place_at tokens.now at) next ≡ Ok (read value.new next)) }
+    ensures fault { IfErr result (λ f. (next : ℕ) → made (outcome) (place_at tokens.now at) next ≡ Err f) }
 {
     match outcome {
-        Ok(value) => Ok(value),
+        Ok(made) => {
+            *value = made;
+            Ok(())
+        }
         Err(trouble) => Err(trouble.at(place_at(tokens, at))),
     }
 }
 
 /// What an operator makes of its two sides.
-fn operated(
+#[inline(never)]
+fn operate(
     tokens: &[Token],
     operator: Operator,
-    left: Value,
+    value: &mut Value,
     at: usize,
-    right: Value,
-) -> Result<Value, ExprFault>
-    ensures ok { IfOk result (λ value. (next : ℕ) → made (applied operator left right) (place_at tokens.now at) next ≡ Ok (read value next)) }
-    ensures fault { IfErr result (λ f. (next : ℕ) → made (applied operator left right) (place_at tokens.now at) next ≡ Err f) }
+    right: &mut Value,
+) -> Result<(), ExprFault>
+    ensures ok { OnOk result ((next : ℕ) → made (applied operator value.old right.old) (place_at tokens.now at) next ≡ Ok (read value.new next)) }
+    ensures fault { IfErr result (λ f. (next : ℕ) → made (applied operator value.old right.old) (place_at tokens.now at) next ≡ Err f) }
 {
-    settled(tokens, applied(operator, left, right), at)
+    let outcome = applied(operator, take(value), take(right));
+    settle(tokens, outcome, at, value)
+}
+
+/// The second or the third part of a choice.
+#[inline(never)]
+fn choose(
+    tokens: &[Token],
+    condition: &mut Value,
+    value: &mut Value,
+    at: usize,
+    second: &mut Value,
+) -> Result<(), ExprFault>
+    ensures ok { OnOk result ((next : ℕ) → made (chosen condition.old value.old second.old) (place_at tokens.now at) next ≡ Ok (read value.new next)) }
+    ensures fault { IfErr result (λ f. (next : ℕ) → made (chosen condition.old value.old second.old) (place_at tokens.now at) next ≡ Err f) }
+{
+    let outcome = chosen(take(condition), take(value), take(second));
+    settle(tokens, outcome, at, value)
+}
+
+fn marked(mark: Mark, value: Value) -> Result<Value, Trouble>
+    ensures { result ≡ marked mark value }
+{
+    match mark {
+        Mark::Sign(sign) => prefixed(sign, value),
+        Mark::Colour => as_colour(value),
+        Mark::Form(form) => formed(form, value),
+    }
+}
+
+/// What a sign or a colour word makes of the factor behind it.
+#[inline(never)]
+fn mark_in(tokens: &[Token], mark: Mark, at: usize, value: &mut Value) -> Result<(), ExprFault>
+    ensures ok { OnOk result ((next : ℕ) → made (marked mark value.old) (place_at tokens.now at) next ≡ Ok (read value.new next)) }
+    ensures fault { IfErr result (λ f. (next : ℕ) → made (marked mark value.old) (place_at tokens.now at) next ≡ Err f) }
+{
+    let outcome = marked(mark, take(value));
+    settle(tokens, outcome, at, value)
+}
+
+/// What `<` and `>` make of the numbers between them.
+#[inline(never)]
+fn group_in(
+    tokens: &[Token],
+    numbers: &[Value],
+    at: usize,
+    value: &mut Value,
+) -> Result<(), ExprFault>
+    requires least { 3 ≤ length numbers.now }
+    requires most { length numbers.now ≤ 5 }
+    ensures ok { OnOk result ((next : ℕ) → made (grouped numbers.now) (place_at tokens.now at) next ≡ Ok (read value.new next)) }
+    ensures fault { IfErr result (λ f. (next : ℕ) → made (grouped numbers.now) (place_at tokens.now at) next ≡ Err f) }
+{
+    settle(tokens, grouped(numbers), at, value)
 }
 
 /// What a call makes of its arguments.
-fn called_at(
+#[inline(never)]
+fn call_in(
     alloc: Global,
     tokens: &[Token],
     call: Call,
     arguments: &[Value],
     at: usize,
-) -> Result<Value, ExprFault>
-    ensures ok { IfOk result (λ value. (next : ℕ) → made (called call arguments.now) (place_at tokens.now at) next ≡ Ok (read value next)) }
+    value: &mut Value,
+) -> Result<(), ExprFault>
+    ensures ok { OnOk result ((next : ℕ) → made (called call arguments.now) (place_at tokens.now at) next ≡ Ok (read value.new next)) }
     ensures fault { IfErr result (λ f. f ≢ NoMemory → (next : ℕ) → made (called call arguments.now) (place_at tokens.now at) next ≡ Err f) }
 {
-    settled(tokens, called(alloc, call, arguments), at)
+    settle(tokens, called(alloc, call, arguments), at, value)
 }
 
 /// The text that stands here, as a value.
-fn literal(alloc: Global, tokens: &[Token], at: usize) -> Result<Value, ExprFault>
-    ensures ok { IfOk result (λ value. (next : ℕ) → made (text_value (text_at tokens.now at)) (place_at tokens.now at) next ≡ Ok (read value next)) }
+#[inline(never)]
+fn literal(alloc: Global, tokens: &[Token], at: usize, value: &mut Value) -> Result<(), ExprFault>
+    ensures ok { OnOk result ((next : ℕ) → made (text_value (text_at tokens.now at)) (place_at tokens.now at) next ≡ Ok (read value.new next)) }
     ensures fault { IfErr result (λ f. f ≢ NoMemory → (next : ℕ) → made (text_value (text_at tokens.now at)) (place_at tokens.now at) next ≡ Err f) }
 {
-    settled(tokens, text(alloc, text_at(tokens, at)), at)
+    settle(tokens, text(alloc, text_at(tokens, at)), at, value)
 }
 
 /// Whether a comma and a further part follow.
@@ -96,35 +170,182 @@ fn goes_on(tokens: &[Token], arity: Arity, count: usize, at: usize) -> Result<bo
 }
 
 /// The component behind a dot.
-fn with_component(tokens: &[Token], value: Value, at: usize) -> Result<Value, ExprFault>
+#[inline(never)]
+fn with_component(tokens: &[Token], at: usize, value: &mut Value) -> Result<(), ExprFault>
     requires { at < length tokens.now }
-    ensures ok { IfOk result (λ found. with_component tokens.now (read value at) (component_at tokens.now (at + 1)) ≡ Ok (read found (at + 2))) }
-    ensures fault { IfErr result (λ f. with_component tokens.now (read value at) (component_at tokens.now (at + 1)) ≡ Err f) }
-    ensures within { IfOk result (λ found. at + 2 ≤ length tokens.now) }
+    ensures ok { OnOk result (with_component tokens.now (read value.old at) (component_at tokens.now (at + 1)) ≡ Ok (read value.new (at + 2))) }
+    ensures fault { IfErr result (λ f. with_component tokens.now (read value.old at) (component_at tokens.now (at + 1)) ≡ Err f) }
+    ensures within { OnOk result (at + 2 ≤ length tokens.now) }
 {
     match component_at(tokens, at + 1) {
-        Some(part) => settled(tokens, taken(part, value), at),
+        Some(part) => {
+            let outcome = taken(part, take(value));
+            settle(tokens, outcome, at, value)
+        }
         None => Err(ExprFault::Expected(place_at(tokens, at + 1))),
     }
 }
 
 /// A value with the dots behind it.
-fn dotted(tokens: &[Token], value: Value, at: usize) -> Result<(Value, usize), ExprFault>
+fn dotted(tokens: &[Token], at: usize, value: &mut Value) -> Result<usize, ExprFault>
     requires { at ≤ length tokens.now }
-    ensures found { IfOk result (λ found. IsDotted tokens.now (read value at) (Ok (read found.0 found.1))) }
-    ensures fault { IfErr result (λ f. IsDotted tokens.now (read value at) (Err f)) }
-    ensures within { IfOk result (λ found. (at ≤ found.1) × (found.1 ≤ length tokens.now)) }
+    ensures found { IfOk result (λ next. IsDotted tokens.now (read value.old at) (Ok (read value.new next))) }
+    ensures fault { IfErr result (λ f. IsDotted tokens.now (read value.old at) (Err f)) }
+    ensures within { IfOk result (λ next. (at ≤ next) × (next ≤ length tokens.now)) }
 {
-    let mut value = value;
     let mut next = at;
     'dots: while sign_at(tokens, next) == sign::DOT {
-        value = with_component(tokens, value, next)?;
+        with_component(tokens, next, value)?;
         next += 2;
     }
-    Ok((value, next))
+    Ok(next)
 }
 
-/// What a token begins that opens a depth: inside it so many depths are left.
+// ---- what opens a depth: inside it so many depths are left
+
+/// A sign or a colour word, and the factor behind it.
+#[cycle(levels)]
+fn marked_at(
+    alloc: Global,
+    tokens: &[Token],
+    set: &Settings,
+    mark: Mark,
+    at: usize,
+    depths: usize,
+    value: &mut Value,
+) -> Result<usize, ExprFault>
+    requires within { at < length tokens.now }
+    requires whole { AreWhole set.now }
+    ensures found { IfOk result (λ next. IsOpening tokens.now (inner tokens.now set.now (suc depths)) (Opener.Mark mark) at (Ok (read value.new next))) }
+    ensures fault { IfErr result (λ f. f ≢ NoMemory → IsOpening tokens.now (inner tokens.now set.now (suc depths)) (Opener.Mark mark) at (Err f)) }
+    ensures within { IfOk result (λ next. (at ≤ next) × (next ≤ length tokens.now)) }
+{
+    let next = factor(alloc, tokens, set, at + 1, depths, value)?;
+    mark_in(tokens, mark, at, value)?;
+    Ok(next)
+}
+
+/// An expression in brackets.
+#[cycle(levels)]
+fn bracketed(
+    alloc: Global,
+    tokens: &[Token],
+    set: &Settings,
+    at: usize,
+    depths: usize,
+    value: &mut Value,
+) -> Result<usize, ExprFault>
+    requires within { at < length tokens.now }
+    requires whole { AreWhole set.now }
+    ensures found { IfOk result (λ next. IsOpening tokens.now (inner tokens.now set.now (suc depths)) Opener.Bracket at (Ok (read value.new next))) }
+    ensures fault { IfErr result (λ f. f ≢ NoMemory → IsOpening tokens.now (inner tokens.now set.now (suc depths)) Opener.Bracket at (Err f)) }
+    ensures within { IfOk result (λ next. (at ≤ next) × (next ≤ length tokens.now)) }
+{
+    let inside = choice(alloc, tokens, set, at + 1, depths, value)?;
+    let next = passed(sign::CLOSE_BRACKET, tokens, inside)?;
+    Ok(next)
+}
+
+/// The numbers between `<` and `>`.
+#[cycle(levels)]
+#[inline(never)]
+fn grouped_at(
+    alloc: Global,
+    tokens: &[Token],
+    set: &Settings,
+    at: usize,
+    depths: usize,
+    value: &mut Value,
+) -> Result<usize, ExprFault>
+    requires within { at < length tokens.now }
+    requires whole { AreWhole set.now }
+    ensures found { IfOk result (λ next. IsOpening tokens.now (inner tokens.now set.now (suc depths)) Opener.Angle at (Ok (read value.new next))) }
+    ensures fault { IfErr result (λ f. f ≢ NoMemory → IsOpening tokens.now (inner tokens.now set.now (suc depths)) Opener.Angle at (Err f)) }
+    ensures within { IfOk result (λ next. (at ≤ next) × (next ≤ length tokens.now)) }
+{
+    let mut values = SmallVec::new(alloc);
+    let end = row(
+        alloc,
+        tokens,
+        set,
+        at + 1,
+        depths,
+        Level::Sum,
+        ANGLE,
+        &mut values,
+    )?;
+    let next = passed(sign::GREATER, tokens, end)?;
+    group_in(tokens, values.as_slice(), at, value)?;
+    Ok(next)
+}
+
+/// A call with its arguments.
+#[cycle(levels)]
+#[inline(never)]
+fn called_at(
+    alloc: Global,
+    tokens: &[Token],
+    set: &Settings,
+    call: Call,
+    at: usize,
+    depths: usize,
+    value: &mut Value,
+) -> Result<usize, ExprFault>
+    requires within { at < length tokens.now }
+    requires whole { AreWhole set.now }
+    ensures found { IfOk result (λ next. IsOpening tokens.now (inner tokens.now set.now (suc depths)) (Opener.Call call) at (Ok (read value.new next))) }
+    ensures fault { IfErr result (λ f. f ≢ NoMemory → IsOpening tokens.now (inner tokens.now set.now (suc depths)) (Opener.Call call) at (Err f)) }
+    ensures within { IfOk result (λ next. (at ≤ next) × (next ≤ length tokens.now)) }
+{
+    let start = passed(sign::OPEN_BRACKET, tokens, at + 1)?;
+    let mut values = SmallVec::new(alloc);
+    let end = row(
+        alloc,
+        tokens,
+        set,
+        start,
+        depths,
+        Level::Choice,
+        call.arity(),
+        &mut values,
+    )?;
+    let next = passed(sign::CLOSE_BRACKET, tokens, end)?;
+    call_in(alloc, tokens, call, values.as_slice(), at, value)?;
+    Ok(next)
+}
+
+/// The numbers of a colour, each behind its word.
+#[cycle(levels)]
+#[inline(never)]
+fn channels(
+    alloc: Global,
+    tokens: &[Token],
+    set: &Settings,
+    at: usize,
+    depths: usize,
+    value: &mut Value,
+) -> Result<usize, ExprFault>
+    requires within { at ≤ length tokens.now }
+    requires whole { AreWhole set.now }
+    ensures found { IfOk result (λ next. IsOpening tokens.now (inner tokens.now set.now (suc depths)) Opener.Channels at (Ok (read value.new next))) }
+    ensures fault { IfErr result (λ f. f ≢ NoMemory → IsOpening tokens.now (inner tokens.now set.now (suc depths)) Opener.Channels at (Err f)) }
+    ensures within { IfOk result (λ next. (at ≤ next) × (next ≤ length tokens.now)) }
+{
+    let mut colour = black();
+    let mut next = at;
+    'numbers: while let Some(channel) = channel_at(tokens, next) {
+        let end = level(alloc, tokens, set, next + 1, depths, SUM, value)?;
+        colour = match with_channel(colour, channel, take(value)) {
+            Ok(more) => more,
+            Err(trouble) => return Err(trouble.at(place_at(tokens, next))),
+        };
+        next = end;
+    }
+    *value = Value::Color(colour);
+    Ok(next)
+}
+
+/// What a token begins that opens a depth.
 #[cycle(levels)]
 fn opened(
     alloc: Global,
@@ -133,71 +354,36 @@ fn opened(
     opener: Opener,
     at: usize,
     depths: usize,
-) -> Result<(Value, usize), ExprFault>
+    value: &mut Value,
+) -> Result<usize, ExprFault>
     requires within { at < length tokens.now }
     requires whole { AreWhole set.now }
-    ensures found { IfOk result (λ found. IsOpening tokens.now (inner tokens.now set.now (suc depths)) opener at (Ok (read found.0 found.1))) }
+    ensures found { IfOk result (λ next. IsOpening tokens.now (inner tokens.now set.now (suc depths)) opener at (Ok (read value.new next))) }
     ensures fault { IfErr result (λ f. f ≢ NoMemory → IsOpening tokens.now (inner tokens.now set.now (suc depths)) opener at (Err f)) }
-    ensures within { IfOk result (λ found. (at ≤ found.1) × (found.1 ≤ length tokens.now)) }
+    ensures within { IfOk result (λ next. (at ≤ next) × (next ≤ length tokens.now)) }
 {
     match opener {
-        Opener::Prefix(prefix) => {
-            let (value, next) = factor(alloc, tokens, set, at + 1, depths)?;
-            Ok((settled(tokens, prefixed(prefix, value), at)?, next))
-        }
-        Opener::Colour => {
-            let (value, next) = factor(alloc, tokens, set, at + 1, depths)?;
-            Ok((settled(tokens, as_colour(value), at)?, next))
-        }
-        Opener::Form(form) => {
-            let (value, next) = factor(alloc, tokens, set, at + 1, depths)?;
-            Ok((settled(tokens, formed(form, value), at)?, next))
-        }
-        Opener::Bracket => {
-            let (value, next) = choice(alloc, tokens, set, at + 1, depths)?;
-            Ok((value, passed(sign::CLOSE_BRACKET, tokens, next)?))
-        }
-        Opener::Angle => {
-            let (values, end) = row(alloc, tokens, set, at + 1, depths, Level::Sum, ANGLE)?;
-            let next = passed(sign::GREATER, tokens, end)?;
-            Ok((settled(tokens, grouped(values.as_slice()), at)?, next))
-        }
-        Opener::Call(call) => {
-            let start = passed(sign::OPEN_BRACKET, tokens, at + 1)?;
-            let (values, end) = row(
-                alloc,
-                tokens,
-                set,
-                start,
-                depths,
-                Level::Choice,
-                call.arity(),
-            )?;
-            let next = passed(sign::CLOSE_BRACKET, tokens, end)?;
-            Ok((called_at(alloc, tokens, call, values.as_slice(), at)?, next))
-        }
-        Opener::Channels => channels(alloc, tokens, set, at, depths),
+        Opener::Mark(mark) => marked_at(alloc, tokens, set, mark, at, depths, value),
+        Opener::Bracket => bracketed(alloc, tokens, set, at, depths, value),
+        Opener::Angle => grouped_at(alloc, tokens, set, at, depths, value),
+        Opener::Call(call) => called_at(alloc, tokens, set, call, at, depths, value),
+        Opener::Channels => channels(alloc, tokens, set, at, depths, value),
     }
 }
 
-/// Between `<` and `>` stand three to five numbers.
-const ANGLE: Arity = Arity {
-    least: 3,
-    most: Some(5),
-};
-
 /// Adds a part to those that stand before it.
-fn push(values: &mut SmallVec<Value, 5>, value: Value) -> Result<(), ExprFault>
-    ensures ok { OnOk result (values.new.items ≡ values.old.items ++ value ∷ []) }
+#[inline(never)]
+fn push(values: &mut SmallVec<Value, 5>, value: &mut Value) -> Result<(), ExprFault>
+    ensures ok { OnOk result (values.new.items ≡ values.old.items ++ value.old ∷ []) }
     ensures fault { IfErr result (λ f. f ≡ NoMemory) }
 {
-    if values.push(value).is_err() {
+    if values.push(take(value)).is_err() {
         return Err(ExprFault::NoMemory);
     }
     Ok(())
 }
 
-/// Parts divided by commas, inside a token that opened a depth: so many are left there.
+/// Parts divided by commas, behind a token that opened a depth: so many are left there.
 #[cycle(levels)]
 fn row(
     alloc: Global,
@@ -207,53 +393,29 @@ fn row(
     depths: usize,
     level: Level,
     arity: Arity,
-) -> Result<(SmallVec<Value, 5>, usize), ExprFault>
+    values: &mut SmallVec<Value, 5>,
+) -> Result<usize, ExprFault>
     requires within { at ≤ length tokens.now }
     requires whole { AreWhole set.now }
-    ensures found { IfOk result (λ found. IsRow tokens.now (inner tokens.now set.now (suc depths) (inner_of level)) arity [] at (Ok (record { values = found.0.items; next = found.1 }))) }
+    requires empty { values.old.items ≡ [] }
+    ensures found { IfOk result (λ next. IsRow tokens.now (inner tokens.now set.now (suc depths) (inner_of level)) arity [] at (Ok (record { values = values.new.items; next = next }))) }
     ensures fault { IfErr result (λ f. f ≢ NoMemory → IsRow tokens.now (inner tokens.now set.now (suc depths) (inner_of level)) arity [] at (Err f)) }
-    ensures within { IfOk result (λ found. (at ≤ found.1) × (found.1 ≤ length tokens.now)) }
+    ensures within { IfOk result (λ next. (at ≤ next) × (next ≤ length tokens.now)) }
 {
-    let mut values = SmallVec::new(alloc);
     let mut next = at;
     'parts: loop {
-        let (value, end) = part(alloc, tokens, set, next, depths, level)?;
-        push(&mut values, value)?;
+        let mut value = Value::default();
+        let end = part(alloc, tokens, set, next, depths, level, &mut value)?;
+        push(values, &mut value)?;
         let count = values.as_slice().len();
         if !goes_on(tokens, arity, count, end)? {
-            return Ok((values, end));
+            return Ok(end);
         }
         next = end + 1;
     }
 }
 
-/// The numbers of a colour, each behind its word, inside which so many depths are left.
-#[cycle(levels)]
-fn channels(
-    alloc: Global,
-    tokens: &[Token],
-    set: &Settings,
-    at: usize,
-    depths: usize,
-) -> Result<(Value, usize), ExprFault>
-    requires within { at ≤ length tokens.now }
-    requires whole { AreWhole set.now }
-    ensures found { IfOk result (λ found. IsOpening tokens.now (inner tokens.now set.now (suc depths)) Opener.Channels at (Ok (read found.0 found.1))) }
-    ensures fault { IfErr result (λ f. f ≢ NoMemory → IsOpening tokens.now (inner tokens.now set.now (suc depths)) Opener.Channels at (Err f)) }
-    ensures within { IfOk result (λ found. (at ≤ found.1) × (found.1 ≤ length tokens.now)) }
-{
-    let mut colour = black();
-    let mut next = at;
-    'numbers: while let Some(channel) = channel_at(tokens, next) {
-        let (value, end) = sum(alloc, tokens, set, next + 1, depths)?;
-        colour = match with_channel(colour, channel, value) {
-            Ok(more) => more,
-            Err(trouble) => return Err(trouble.at(place_at(tokens, next))),
-        };
-        next = end;
-    }
-    Ok((Value::Color(colour), next))
-}
+// ---- the levels
 
 /// What a factor is without the dots behind it.
 #[cycle(levels)]
@@ -263,22 +425,32 @@ fn bare(
     set: &Settings,
     at: usize,
     depths: usize,
-) -> Result<(Value, usize), ExprFault>
+    value: &mut Value,
+) -> Result<usize, ExprFault>
     requires within { at ≤ length tokens.now }
     requires whole { AreWhole set.now }
-    ensures found { IfOk result (λ found. IsBare tokens.now set.now (nat_eq depths 0) (inner tokens.now set.now depths) (head_at tokens.now at) at (Ok (read found.0 found.1))) }
+    ensures found { IfOk result (λ next. IsBare tokens.now set.now (nat_eq depths 0) (inner tokens.now set.now depths) (head_at tokens.now at) at (Ok (read value.new next))) }
     ensures fault { IfErr result (λ f. f ≢ NoMemory → IsBare tokens.now set.now (nat_eq depths 0) (inner tokens.now set.now depths) (head_at tokens.now at) at (Err f)) }
-    ensures within { IfOk result (λ found. (at ≤ found.1) × (found.1 ≤ length tokens.now)) }
+    ensures within { IfOk result (λ next. (at ≤ next) × (next ≤ length tokens.now)) }
 {
     match head_at(tokens, at) {
-        Head::Number(value) => Ok((Value::Float(value), at + 1)),
-        Head::Text => Ok((literal(alloc, tokens, at)?, at + 1)),
-        Head::Constant(word) => Ok((constant(word, set), at + 1)),
+        Head::Number(number) => {
+            *value = Value::Float(number);
+            Ok(at + 1)
+        }
+        Head::Text => {
+            literal(alloc, tokens, at, value)?;
+            Ok(at + 1)
+        }
+        Head::Constant(word) => {
+            *value = constant(word, set);
+            Ok(at + 1)
+        }
         Head::Opener(opener) => {
             if depths == 0 {
                 return Err(ExprFault::Range(place_at(tokens, at)));
             }
-            opened(alloc, tokens, set, opener, at, depths - 1)
+            opened(alloc, tokens, set, opener, at, depths - 1, value)
         }
         Head::Unknown => Err(ExprFault::UnknownName(place_at(tokens, at))),
         Head::Nothing => Err(ExprFault::Expected(place_at(tokens, at))),
@@ -293,112 +465,85 @@ fn factor(
     set: &Settings,
     at: usize,
     depths: usize,
-) -> Result<(Value, usize), ExprFault>
+    value: &mut Value,
+) -> Result<usize, ExprFault>
     requires within { at ≤ length tokens.now }
     requires whole { AreWhole set.now }
-    ensures found { IfOk result (λ found. at_depths IsFactor tokens.now set.now depths at (Ok (read found.0 found.1))) }
+    ensures found { IfOk result (λ next. at_depths IsFactor tokens.now set.now depths at (Ok (read value.new next))) }
     ensures fault { IfErr result (λ f. f ≢ NoMemory → at_depths IsFactor tokens.now set.now depths at (Err f)) }
-    ensures within { IfOk result (λ found. (at ≤ found.1) × (found.1 ≤ length tokens.now)) }
+    ensures within { IfOk result (λ next. (at ≤ next) × (next ≤ length tokens.now)) }
 {
-    let (value, next) = bare(alloc, tokens, set, at, depths)?;
-    dotted(tokens, value, next)
+    let end = bare(alloc, tokens, set, at, depths, value)?;
+    dotted(tokens, end, value)
 }
 
-/// Factors with `*` and `/` between them.
+/// How many tiers of operators a sum has.
+const SUM: usize = 2;
+
+/// How many there are.
+const ALL: usize = 4;
+
+/// A factor, or operands with so many tiers of operators between them.
 #[cycle(levels)]
-fn term(
+fn level(
     alloc: Global,
     tokens: &[Token],
     set: &Settings,
     at: usize,
     depths: usize,
-) -> Result<(Value, usize), ExprFault>
+    tiers: usize,
+    value: &mut Value,
+) -> Result<usize, ExprFault>
     requires within { at ≤ length tokens.now }
+    requires tiers { tiers ≤ 4 }
     requires whole { AreWhole set.now }
-    ensures found { IfOk result (λ found. at_depths IsTerm tokens.now set.now depths at (Ok (read found.0 found.1))) }
-    ensures fault { IfErr result (λ f. f ≢ NoMemory → at_depths IsTerm tokens.now set.now depths at (Err f)) }
-    ensures within { IfOk result (λ found. (at ≤ found.1) × (found.1 ≤ length tokens.now)) }
+    ensures found { IfOk result (λ next. at_depths (IsTier tiers) tokens.now set.now depths at (Ok (read value.new next))) }
+    ensures fault { IfErr result (λ f. f ≢ NoMemory → at_depths (IsTier tiers) tokens.now set.now depths at (Err f)) }
+    ensures within { IfOk result (λ next. (at ≤ next) × (next ≤ length tokens.now)) }
 {
-    let (mut value, mut next) = factor(alloc, tokens, set, at, depths)?;
-    'factors: while let Some(operator) = term_operator(sign_at(tokens, next)) {
-        let (right, end) = factor(alloc, tokens, set, next + 1, depths)?;
-        value = operated(tokens, operator, value, next, right)?;
-        next = end;
-    }
-    Ok((value, next))
-}
-
-/// Terms with `+` and `-` between them.
-#[cycle(levels)]
-fn sum(
-    alloc: Global,
-    tokens: &[Token],
-    set: &Settings,
-    at: usize,
-    depths: usize,
-) -> Result<(Value, usize), ExprFault>
-    requires within { at ≤ length tokens.now }
-    requires whole { AreWhole set.now }
-    ensures found { IfOk result (λ found. at_depths IsSum tokens.now set.now depths at (Ok (read found.0 found.1))) }
-    ensures fault { IfErr result (λ f. f ≢ NoMemory → at_depths IsSum tokens.now set.now depths at (Err f)) }
-    ensures within { IfOk result (λ found. (at ≤ found.1) × (found.1 ≤ length tokens.now)) }
-{
-    let (mut value, mut next) = term(alloc, tokens, set, at, depths)?;
-    'terms: while let Some(operator) = sum_operator(sign_at(tokens, next)) {
-        let (right, end) = term(alloc, tokens, set, next + 1, depths)?;
-        value = operated(tokens, operator, value, next, right)?;
-        next = end;
-    }
-    Ok((value, next))
-}
-
-/// A sum, or a comparison of two.
-#[cycle(levels)]
-fn compared(
-    alloc: Global,
-    tokens: &[Token],
-    set: &Settings,
-    at: usize,
-    depths: usize,
-) -> Result<(Value, usize), ExprFault>
-    requires within { at ≤ length tokens.now }
-    requires whole { AreWhole set.now }
-    ensures found { IfOk result (λ found. at_depths IsComparison tokens.now set.now depths at (Ok (read found.0 found.1))) }
-    ensures fault { IfErr result (λ f. f ≢ NoMemory → at_depths IsComparison tokens.now set.now depths at (Err f)) }
-    ensures within { IfOk result (λ found. (at ≤ found.1) × (found.1 ≤ length tokens.now)) }
-{
-    let (left, next) = sum(alloc, tokens, set, at, depths)?;
-    match comparison_operator(sign_at(tokens, next)) {
-        Some(operator) => {
-            let (right, end) = sum(alloc, tokens, set, next + 1, depths)?;
-            Ok((operated(tokens, operator, left, next, right)?, end))
+    let mut next = factor(alloc, tokens, set, at, depths, value)?;
+    let mut tier = 0;
+    'operators: while tier < tiers {
+        match tier_operator(tier, sign_at(tokens, next)) {
+            None => {
+                tier += 1;
+            }
+            Some(operator) => {
+                let mut right = Value::default();
+                let end = level(alloc, tokens, set, next + 1, depths, tier, &mut right)?;
+                operate(tokens, operator, value, next, &mut right)?;
+                next = end;
+                tier = tier_behind(tier);
+            }
         }
-        None => Ok((left, next)),
     }
+    Ok(next)
 }
 
-/// Comparisons with `&` and `|` between them.
+/// The second and the third part of a choice, behind its condition and the question mark.
 #[cycle(levels)]
-fn connected(
+#[inline(never)]
+fn branched(
     alloc: Global,
     tokens: &[Token],
     set: &Settings,
     at: usize,
     depths: usize,
-) -> Result<(Value, usize), ExprFault>
-    requires within { at ≤ length tokens.now }
+    value: &mut Value,
+) -> Result<usize, ExprFault>
+    requires within { at < length tokens.now }
     requires whole { AreWhole set.now }
-    ensures found { IfOk result (λ found. at_depths IsConnection tokens.now set.now depths at (Ok (read found.0 found.1))) }
-    ensures fault { IfErr result (λ f. f ≢ NoMemory → at_depths IsConnection tokens.now set.now depths at (Err f)) }
-    ensures within { IfOk result (λ found. (at ≤ found.1) × (found.1 ≤ length tokens.now)) }
+    ensures found { IfOk result (λ next. IsBranched tokens.now (inner tokens.now set.now (suc depths) Choice) (read value.old at) (Ok (read value.new next))) }
+    ensures fault { IfErr result (λ f. f ≢ NoMemory → IsBranched tokens.now (inner tokens.now set.now (suc depths) Choice) (read value.old at) (Err f)) }
+    ensures within { IfOk result (λ next. (at ≤ next) × (next ≤ length tokens.now)) }
 {
-    let (mut value, mut next) = compared(alloc, tokens, set, at, depths)?;
-    'comparisons: while let Some(operator) = connective_operator(sign_at(tokens, next)) {
-        let (right, end) = compared(alloc, tokens, set, next + 1, depths)?;
-        value = operated(tokens, operator, value, next, right)?;
-        next = end;
-    }
-    Ok((value, next))
+    let mut condition = take(value);
+    let end = choice(alloc, tokens, set, at + 1, depths, value)?;
+    let start = passed(sign::COLON, tokens, end)?;
+    let mut second = Value::default();
+    let next = choice(alloc, tokens, set, start, depths, &mut second)?;
+    choose(tokens, &mut condition, value, at, &mut second)?;
+    Ok(next)
 }
 
 /// A condition alone, or with the two parts of a choice.
@@ -409,27 +554,23 @@ fn choice(
     set: &Settings,
     at: usize,
     depths: usize,
-) -> Result<(Value, usize), ExprFault>
+    value: &mut Value,
+) -> Result<usize, ExprFault>
     requires within { at ≤ length tokens.now }
     requires whole { AreWhole set.now }
-    ensures found { IfOk result (λ found. at_depths IsChoice tokens.now set.now depths at (Ok (read found.0 found.1))) }
+    ensures found { IfOk result (λ next. at_depths IsChoice tokens.now set.now depths at (Ok (read value.new next))) }
     ensures fault { IfErr result (λ f. f ≢ NoMemory → at_depths IsChoice tokens.now set.now depths at (Err f)) }
-    ensures within { IfOk result (λ found. (at ≤ found.1) × (found.1 ≤ length tokens.now)) }
+    ensures within { IfOk result (λ next. (at ≤ next) × (next ≤ length tokens.now)) }
 {
-    let (condition, asked) = connected(alloc, tokens, set, at, depths)?;
+    let asked = level(alloc, tokens, set, at, depths, ALL, value)?;
     if sign_at(tokens, asked) != sign::QUESTION {
-        return Ok((condition, asked));
+        return Ok(asked);
     }
     if depths == 0 {
         return Err(ExprFault::Range(place_at(tokens, asked)));
     }
-    let (first, end) = choice(alloc, tokens, set, asked + 1, depths - 1)?;
-    let start = passed(sign::COLON, tokens, end)?;
-    let (second, next) = choice(alloc, tokens, set, start, depths - 1)?;
-    Ok((
-        settled(tokens, chosen(condition, first, second), asked)?,
-        next,
-    ))
+    let next = branched(alloc, tokens, set, asked, depths - 1, value)?;
+    Ok(next)
 }
 
 /// A part of a row, at its level.
@@ -440,17 +581,18 @@ fn part(
     set: &Settings,
     at: usize,
     depths: usize,
-    level: Level,
-) -> Result<(Value, usize), ExprFault>
+    part_level: Level,
+    value: &mut Value,
+) -> Result<usize, ExprFault>
     requires within { at ≤ length tokens.now }
     requires whole { AreWhole set.now }
-    ensures found { IfOk result (λ found. inner tokens.now set.now (suc depths) (inner_of level) at (Ok (read found.0 found.1))) }
-    ensures fault { IfErr result (λ f. f ≢ NoMemory → inner tokens.now set.now (suc depths) (inner_of level) at (Err f)) }
-    ensures within { IfOk result (λ found. (at ≤ found.1) × (found.1 ≤ length tokens.now)) }
+    ensures found { IfOk result (λ next. inner tokens.now set.now (suc depths) (inner_of part_level) at (Ok (read value.new next))) }
+    ensures fault { IfErr result (λ f. f ≢ NoMemory → inner tokens.now set.now (suc depths) (inner_of part_level) at (Err f)) }
+    ensures within { IfOk result (λ next. (at ≤ next) × (next ≤ length tokens.now)) }
 {
-    match level {
-        Level::Choice => choice(alloc, tokens, set, at, depths),
-        Level::Sum => sum(alloc, tokens, set, at, depths),
+    match part_level {
+        Level::Choice => choice(alloc, tokens, set, at, depths, value),
+        Level::Sum => level(alloc, tokens, set, at, depths, SUM, value),
     }
 }
 
@@ -469,5 +611,7 @@ pub fn eval(
     ensures fault { IfErr result (λ f. f ≢ NoMemory → IsValue tokens.now set.now level at (Err f)) }
     ensures within { IfOk result (λ found. (at ≤ found.1) × (found.1 ≤ length tokens.now)) }
 {
-    part(alloc, tokens, set, at, MOST_DEPTHS, level)
+    let mut value = Value::default();
+    let next = part(alloc, tokens, set, at, MOST_DEPTHS, level, &mut value)?;
+    Ok((value, next))
 }

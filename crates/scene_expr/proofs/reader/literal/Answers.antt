@@ -6,4 +6,4 @@ use Rattle.scene_expr.proofs.reader.literal.Goals as goal
 pub returns-clause-fault : goal.returns-clause-fault
 returns-clause-fault c =
     rw (sym c.text_at.ensures)
-    (IfErr-weaker c.settled.result _ _ (λ f fault some. settled_fault c.text.result _ _ f c.text.ensures.trouble fault some) c.settled.ensures.fault)
+    (IfErr-weaker c.settle.result _ _ (λ f fault some. settled_fault c.text.result _ _ f c.text.ensures.trouble fault some) c.settle.ensures.fault)
