@@ -212,7 +212,7 @@ fn side_turn(marks: &[Mark], at: usize) -> Turn
 /// A declaration is passed over with its right side.
 fn declare_turn(marks: &[Mark], closer: Closer, at: usize) -> Turn
     requires small { at < 2 ^ 60 }
-    requires within { at  < length marks.now }
+    requires within { at < length marks.now }
     ensures value { result ≡ declare_turn marks.now closer at }
     ensures ahead { IsAhead at (length marks.now) result }
 {
@@ -232,7 +232,7 @@ fn is_operand(mark: Option<Mark>) -> bool
 /// A `#version` is passed over with its number or name and a semicolon.
 fn version_turn(marks: &[Mark], at: usize) -> Turn
     requires small { at < 2 ^ 60 }
-    requires within { at  < length marks.now }
+    requires within { at < length marks.now }
     ensures value { result ≡ version_turn marks.now at }
     ensures ahead { IsAhead at (length marks.now) result }
 {
@@ -304,7 +304,7 @@ fn bracket_turn(closer: Closer, opening: u8, at: usize, code: u8) -> Turn
 /// What a sign is to a list in which all brackets count.
 fn mixed_turn(marks: &[Mark], closer: Closer, at: usize, code: u8) -> Turn
     requires small { at < 2 ^ 60 }
-    requires within { at  < length marks.now }
+    requires within { at < length marks.now }
     ensures value { result ≡ mixed_turn marks.now closer at code }
     ensures ahead { IsAhead at (length marks.now) result }
 {
@@ -339,7 +339,7 @@ fn mixed_turn(marks: &[Mark], closer: Closer, at: usize, code: u8) -> Turn
 /// What a token is to a list that isn't the `#` of a directive.
 fn sign_turn(marks: &[Mark], closer: Closer, at: usize, code: u8) -> Turn
     requires small { at < 2 ^ 60 }
-    requires within { at  < length marks.now }
+    requires within { at < length marks.now }
     ensures value { result ≡ sign_turn marks.now closer at code }
     ensures ahead { IsAhead at (length marks.now) result }
 {

@@ -97,7 +97,13 @@ pub fn fill(marks: &[Mark], table: &mut [u32])
     let mut k = table.len();
     'entries: while k > 0 {
         let here = k - 1;
-        let end = entry(marks, Closer::numbered(here % KINDS), here / KINDS, k, table);
+        let end = entry(
+            marks,
+            Closer::numbered(here % KINDS),
+            here / KINDS,
+            k,
+            table,
+        );
         table[here] = end as u32;
         k = here;
     }

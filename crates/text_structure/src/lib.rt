@@ -9,7 +9,7 @@ mod vocabulary;
 mod words;
 mod written;
 
-pub use closer::{Closer, Turn, directive_at, is_block, is_word, mark_at, past, sign_at, turn_at};
+pub use closer::{Closer, directive_at, is_block, is_word, sign_at};
 pub use levels::{Misplaced, check_structure};
 pub use mark::{Directive, Known, Mark};
 pub use vocabulary::Words;

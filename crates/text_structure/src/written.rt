@@ -126,6 +126,13 @@ impl Written {
         self.tokens.as_slice().get(at)
     }
 
+    /// All tokens.
+    pub fn tokens(&self) -> &[Token]
+        ensures { result.now ≡ self.now.tokens }
+    {
+        self.tokens.as_slice()
+    }
+
     /// The marks of all tokens.
     pub fn marks(&self) -> &[Mark]
         ensures value { result.now ≡ self.now.marks }
