@@ -10,6 +10,8 @@ mod memory;
 #[cfg(test)]
 mod rig;
 #[cfg(test)]
+mod samples;
+#[cfg(test)]
 mod scenes;
 #[cfg(test)]
 mod words;
