@@ -1,0 +1,16 @@
+pub mod Looked
+pub mod Calls
+pub mod Drawing
+pub mod Files
+pub mod Fronts
+pub mod Given
+pub mod Heads
+pub mod Laying
+pub mod Making
+pub mod Marking
+pub mod Penned
+pub mod Products
+pub mod Shapes
+pub mod Steps
+pub mod Taken
+pub mod Todo

@@ -1,0 +1,53 @@
+-- What a file is after it was looked at.
+use Rattle.std.proofs.Common.{ℕ, ◌+◌, ◌≤◌, ◌≡◌, Bool, true, List, length, subst, inl, inr, arith}
+use Rattle.shelf.specs.Disk.{Images}
+use Rattle.shelf.specs.Moments.{Under}
+use Rattle.shelf.proofs.Steps as shelf_steps
+use Rattle.state_file.specs.declared.found.Found.{Found}
+use Rattle.state_file.specs.declared.found.Found.TheVariants.{New, Same}
+use Rattle.state_file.specs.Finding.{IsFound, IsNew}
+use Rattle.state_file.specs.Layout.{Layout, IsLaidOut, IsOpenFile, IsThisFrame, IsOpenBlock, IsAcknowledged}
+use Rattle.state_file.specs.Opening.{IsMade, Ran}
+
+-- a run that promises less
+pub ran_weaker : {S : Type 0} (moment : S → ℕ) (images : S → Images) (name : List ℕ) (P Q : List ℕ → Type 0) (old new : S)
+    → ((c : List ℕ) → P c → Q c) → Ran moment images name P old new → Ran moment images name Q old new
+ran_weaker moment images name P Q old new implies r = record {
+  moments = shelf_steps.weaker (moment old) (moment new) (images old) (images new) (Under name Q (images old (moment old)))
+      (Under name P (images old (moment old))) r.moments
+      (λ n c u. record { own = λ e. implies c (u.own e); other = u.other });
+  elsewhere = r.elsewhere;
+}
+
+-- an open block stands in an open file
+pub open_file : (l : Layout) → IsLaidOut l → (b : ℕ) (c : List ℕ) → IsOpenBlock l b c → IsOpenFile c
+open_file l ok b c o =
+    let long : length c ≡ l.all = o.file.long in
+    let g : l.gates + l.count ≤ l.all = ok.gates in
+    let w : 2 ≤ l.gates = ok.wide in
+    record { long = omega arith; gate = o.file.gate }
+
+-- what comes of less was made of less
+pub made_of : (l : Layout) (between before : List ℕ → Type 0) → ((c : List ℕ) → between c → before c) → (c : List ℕ)
+    → IsMade l between c → IsMade l before c
+made_of l between before sub c m = elim m [
+  | inl i ↦ inl (sub c i)
+  | inr n ↦ elim n [ inl b ↦ inr (inl b) | inr w ↦ inr (inr (w.0, sub w.0 w.1, w.2)) ]
+]
+
+-- where a block was acknowledged the file that was looked at isn't new
+pub not_new : (holds old : List ℕ → Type 0) (images : List ℕ → Type 0) (l : Layout) → IsLaidOut l → (b : ℕ) (resume : Bool)
+    (found : Found) (size gate : ℕ)
+    → resume ≡ true → IsAcknowledged l b old images
+    → ((c : List ℕ) → old c → (d : List ℕ) × holds d) → ((c : List ℕ) → holds c → old c) → ((c : List ℕ) → old c → images c)
+    → ((c : List ℕ) → holds c → IsFound l resume c found) → found ≡ New size gate → ⊥
+not_new holds old images l ok b resume found size gate r a tells back law f e =
+    let w = tells a.seen a.told in
+    let n : IsFound l resume w.0 (New size gate) = subst (λ x. IsFound l resume w.0 x) e (f w.0 w.1) in
+    let fresh : IsNew resume w.0 size gate = n in
+    fresh.absent r (open_file l ok b w.0 (a.each w.0 (law w.0 (back w.0 w.1))))
+
+-- what was read of the file
+pub same_found : (l : Layout) (resume : Bool) (c : List ℕ) (found : Found) → IsFound l resume c found → found ≡ Same
+    → (resume ≡ true) × IsThisFrame l c
+same_found l resume c found f e = subst (λ x. IsFound l resume c x) e f

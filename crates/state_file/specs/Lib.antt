@@ -1,0 +1,12 @@
+pub mod Attaching
+pub mod Blocks
+pub mod Finding
+pub mod Frames
+pub mod Layout
+pub mod Lines
+pub mod Marks
+pub mod Opening
+pub mod Order
+pub mod Pens
+pub mod Shape
+pub mod Taking
