@@ -10,11 +10,12 @@ use Rattle.scene_expr.specs.declared.value.Settings.{Settings}
 use Rattle.scene_expr.specs.declared.value.ExprFault.{ExprFault}
 use Rattle.scene_expr.specs.declared.value.Value.{Value}
 use Rattle.scene_expr.specs.declared.value.Trouble.{Trouble}
+use Rattle.scene_expr.specs.declared.heads.Head.{Head}
 use Rattle.scene_expr.specs.declared.heads.Opener.{Opener}
 use Rattle.scene_expr.specs.declared.operators.Operator.{Operator}
 use Rattle.scene_expr.specs.Then.{IsThen}
 use Rattle.scene_expr.specs.Grammar.{Read, Outcome, Reading, Inner, inner, IsChoice, IsSum, IsFactor, IsOpened, IsOpening, IsBranched, IsRest, IsTakenIn, IsTier, tier_operator, is_repeated, IsAsked, IsRow, Row, goes_on, is_below, made}
-use Rattle.scene_expr.specs.Heads.{sign_at, sign_of, place_at, channel_at, meaning_of}
+use Rattle.scene_expr.specs.Heads.{head_at, head_of, sign_at, sign_of, place_at, channel_at, meaning_of}
 use Rattle.scene_expr.specs.Operators.{applied}
 use Rattle.scene_expr.specs.Words.{channel_of}
 use Rattle.scene_expr.specs.declared.words.Channel.{Channel}
@@ -159,6 +160,13 @@ channel_before_end channel tokens at (Some token) is some = slice_get_within tok
 
 pub channel_within : (channel : Channel) (tokens : List Token) (at : ℕ) → channel_at tokens at ≡ Some channel → at < length tokens
 channel_within channel tokens at some = channel_before_end channel tokens at (slice_get tokens at) refl some
+
+head_before_end : (head : Head) (tokens : List Token) (at : ℕ) (token : Option Token) → slice_get tokens at ≡ token → head_of token ≡ head → (head ≡ Head.Nothing → ⊥) → at < length tokens
+head_before_end head tokens at None is begins some = absurd (some (sym begins))
+head_before_end head tokens at (Some token) is begins some = slice_get_within tokens at token is
+
+pub head_within : (head : Head) (tokens : List Token) (at : ℕ) → head_at tokens at ≡ head → (head ≡ Head.Nothing → ⊥) → at < length tokens
+head_within head tokens at begins some = head_before_end head tokens at (slice_get tokens at) refl begins some
 
 sign_before_end : (tokens : List Token) (at : ℕ) (token : Option Token) → slice_get tokens at ≡ token → 0 < sign_of token → at < length tokens
 sign_before_end tokens at None is some = absurd (omega arith)

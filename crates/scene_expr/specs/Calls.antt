@@ -1,5 +1,5 @@
 -- What calls make of their arguments. (Reference manual, float, vector and string functions)
-use Rattle.std.specs.Prelude.{ℕ, ℤ, List, [], ◌∷◌, ◌++◌, Result, Ok, Err, Option, Some, None}
+use Rattle.std.specs.Prelude.{ℕ, ℤ, List, [], ◌∷◌, ◌++◌, Result, Ok, Err, Option, Some, None, Bool, true, false}
 use Rattle.std.specs.Int.{int_min, int_max}
 use Rattle.fix_math.specs.Directions.{unit_of}
 use Rattle.fix_math.specs.Outcomes.{in_range}
@@ -95,3 +95,10 @@ called Strlen values = on_text size_value values
 called Concat values = on_texts text_value (joined values)
 called Chr values = on_float (λ a. byte_value (natural_of 255 a)) values
 called Str values = on_three_floats str_value values
+
+-- the calls whose value is a text
+abbrev pub makes_text : Call → Bool
+makes_text Concat = true
+makes_text Chr = true
+makes_text Str = true
+makes_text other = false

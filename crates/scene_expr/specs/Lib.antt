@@ -3,6 +3,7 @@ pub mod Colours
 pub mod Constants
 pub mod Grammar
 pub mod Heads
+pub mod Memory
 pub mod Numbers
 pub mod OneValue
 pub mod Operators

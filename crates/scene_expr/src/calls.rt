@@ -1,8 +1,8 @@
 // What calls make of their arguments. (Reference manual, float, vector and string functions)
-ghost use Rattle.std.specs.Prelude.{◌≡◌, ◌≢◌, ◌∷◌, [], List, ℕ, ℤ, Result, IfOk, IfErr, Ok, Err};
+ghost use Rattle.std.specs.Prelude.{◌≡◌, ◌≢◌, ◌∷◌, [], List, ℕ, ℤ, Result, IfOk, IfErr, Ok, Err, true};
 ghost use Rattle.std.specs.Int.{int_min, int_max};
 ghost use Rattle.fix_math.specs.declared.fix.V3.{V3};
-ghost use Rattle.scene_expr.specs.Calls.{on_float, on_two_floats, on_three_floats, on_vector, on_two_vectors, on_text, on_floats, vector_value, called};
+ghost use Rattle.scene_expr.specs.Calls.{on_float, on_two_floats, on_three_floats, on_vector, on_two_vectors, on_text, on_floats, vector_value, called, makes_text};
 ghost use Rattle.scene_expr.specs.Values.{float};
 
 use crate::numbers::{
@@ -21,6 +21,7 @@ use std::alloc::Global;
 pub fn called(alloc: Global, call: Call, arguments: &[Value]) -> Result<Value, Trouble>
     ensures value { IfOk result (λ value. called call arguments.now ≡ Ok value) }
     ensures trouble { IfErr result (λ trouble. trouble ≢ Trouble.NoMemory → called call arguments.now ≡ Err trouble) }
+    ensures memory { IfErr result (λ trouble. trouble ≡ Trouble.NoMemory → makes_text call ≡ true) }
 {
     match call {
         Call::Abs => Ok(Value::Float(size(one_float(arguments)?))),
@@ -72,7 +73,8 @@ pub fn called(alloc: Global, call: Call, arguments: &[Value]) -> Result<Value, T
 }
 
 fn float(calculated: Result<Fix, NumFault>) -> Result<Value, Trouble>
-    ensures { result ≡ float calculated }
+    ensures value { result ≡ float calculated }
+    ensures memory { IfErr result (λ trouble. trouble ≢ Trouble.NoMemory) }
 {
     match calculated {
         Ok(a) => Ok(Value::Float(a)),
@@ -81,7 +83,8 @@ fn float(calculated: Result<Fix, NumFault>) -> Result<Value, Trouble>
 }
 
 fn vector(calculated: Result<V3, NumFault>) -> Result<Value, Trouble>
-    ensures { result ≡ vector_value calculated }
+    ensures value { result ≡ vector_value calculated }
+    ensures memory { IfErr result (λ trouble. trouble ≢ Trouble.NoMemory) }
 {
     match calculated {
         Ok(v) => Ok(Value::Vector(v)),
@@ -94,6 +97,7 @@ fn vector(calculated: Result<V3, NumFault>) -> Result<Value, Trouble>
 fn one_float(arguments: &[Value]) -> Result<Fix, Trouble>
     ensures ok { IfOk result (λ a. arguments.now ≡ Value.Float a ∷ []) }
     ensures err { IfErr result (λ trouble. (f : ℤ → Result Value Trouble) → on_float f arguments.now ≡ Err trouble) }
+    ensures memory { IfErr result (λ trouble. trouble ≢ Trouble.NoMemory) }
 {
     match arguments {
         [Value::Float(a)] => Ok(*a),
@@ -104,6 +108,7 @@ fn one_float(arguments: &[Value]) -> Result<Fix, Trouble>
 fn two_floats(arguments: &[Value]) -> Result<(Fix, Fix), Trouble>
     ensures ok { IfOk result (λ a. arguments.now ≡ Value.Float a.0 ∷ Value.Float a.1 ∷ []) }
     ensures err { IfErr result (λ trouble. (f : ℤ → ℤ → Result Value Trouble) → on_two_floats f arguments.now ≡ Err trouble) }
+    ensures memory { IfErr result (λ trouble. trouble ≢ Trouble.NoMemory) }
 {
     match arguments {
         [Value::Float(a), Value::Float(b)] => Ok((*a, *b)),
@@ -114,6 +119,7 @@ fn two_floats(arguments: &[Value]) -> Result<(Fix, Fix), Trouble>
 fn three_floats(arguments: &[Value]) -> Result<(Fix, Fix, Fix), Trouble>
     ensures ok { IfOk result (λ a. arguments.now ≡ Value.Float a.0 ∷ Value.Float a.1 ∷ Value.Float a.2 ∷ []) }
     ensures err { IfErr result (λ trouble. (f : ℤ → ℤ → ℤ → Result Value Trouble) → on_three_floats f arguments.now ≡ Err trouble) }
+    ensures memory { IfErr result (λ trouble. trouble ≢ Trouble.NoMemory) }
 {
     match arguments {
         [Value::Float(a), Value::Float(b), Value::Float(c)] => Ok((*a, *b, *c)),
@@ -124,6 +130,7 @@ fn three_floats(arguments: &[Value]) -> Result<(Fix, Fix, Fix), Trouble>
 fn one_vector(arguments: &[Value]) -> Result<V3, Trouble>
     ensures ok { IfOk result (λ v. arguments.now ≡ Value.Vector v ∷ []) }
     ensures err { IfErr result (λ trouble. (f : V3 → Result Value Trouble) → on_vector f arguments.now ≡ Err trouble) }
+    ensures memory { IfErr result (λ trouble. trouble ≢ Trouble.NoMemory) }
 {
     match arguments {
         [Value::Vector(v)] => Ok(*v),
@@ -134,6 +141,7 @@ fn one_vector(arguments: &[Value]) -> Result<V3, Trouble>
 fn two_vectors(arguments: &[Value]) -> Result<(V3, V3), Trouble>
     ensures ok { IfOk result (λ v. arguments.now ≡ Value.Vector v.0 ∷ Value.Vector v.1 ∷ []) }
     ensures err { IfErr result (λ trouble. (f : V3 → V3 → Result Value Trouble) → on_two_vectors f arguments.now ≡ Err trouble) }
+    ensures memory { IfErr result (λ trouble. trouble ≢ Trouble.NoMemory) }
 {
     match arguments {
         [Value::Vector(v), Value::Vector(w)] => Ok((*v, *w)),
@@ -144,6 +152,7 @@ fn two_vectors(arguments: &[Value]) -> Result<(V3, V3), Trouble>
 fn one_text(arguments: &[Value]) -> Result<&Str, Trouble>
     ensures ok { IfOk result (λ text. arguments.now ≡ Value.Text text.now ∷ []) }
     ensures err { IfErr result (λ trouble. (f : List ℕ → Result Value Trouble) → on_text f arguments.now ≡ Err trouble) }
+    ensures memory { IfErr result (λ trouble. trouble ≢ Trouble.NoMemory) }
 {
     match arguments {
         [Value::Text(text)] => Ok(text),
@@ -154,7 +163,8 @@ fn one_text(arguments: &[Value]) -> Result<&Str, Trouble>
 // ---- the least and the greatest
 
 fn least(arguments: &[Value]) -> Result<Value, Trouble>
-    ensures { result ≡ on_floats int_min arguments.now }
+    ensures value { result ≡ on_floats int_min arguments.now }
+    ensures memory { IfErr result (λ trouble. trouble ≢ Trouble.NoMemory) }
 {
     let [Value::Float(first), others @ ..] = arguments else {
         return Err(Trouble::Kind);
@@ -172,7 +182,8 @@ fn least(arguments: &[Value]) -> Result<Value, Trouble>
 }
 
 fn greatest(arguments: &[Value]) -> Result<Value, Trouble>
-    ensures { result ≡ on_floats int_max arguments.now }
+    ensures value { result ≡ on_floats int_max arguments.now }
+    ensures memory { IfErr result (λ trouble. trouble ≢ Trouble.NoMemory) }
 {
     let [Value::Float(first), others @ ..] = arguments else {
         return Err(Trouble::Kind);

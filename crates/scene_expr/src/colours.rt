@@ -1,5 +1,5 @@
 // Colours: red, green, blue, filter and transmit. (Reference manual, specifying colors)
-ghost use Rattle.std.specs.Prelude.{◌≡◌, ◌≤◌, length, set};
+ghost use Rattle.std.specs.Prelude.{◌≡◌, ◌≢◌, IfErr, ◌≤◌, length, set};
 ghost use Rattle.scene_expr.specs.Colours.{
   black,
   kept,
@@ -26,7 +26,8 @@ pub fn black() -> [Fix; 5]
 
 /// What the word of a form makes of the value behind it.
 pub fn formed(form: ColourForm, value: Value) -> Result<Value, Trouble>
-    ensures { result ≡ formed form value }
+    ensures value { result ≡ formed form value }
+    ensures memory { IfErr result (λ trouble. trouble ≢ Trouble.NoMemory) }
 {
     match value {
         Value::Float(a) => Ok(Value::Color(kept(form, [a; 5]))),
@@ -50,7 +51,8 @@ fn kept(form: ColourForm, c: [Fix; 5]) -> [Fix; 5]
 
 /// What `color` before a value means.
 pub fn as_colour(value: Value) -> Result<Value, Trouble>
-    ensures { result ≡ as_colour value }
+    ensures value { result ≡ as_colour value }
+    ensures memory { IfErr result (λ trouble. trouble ≢ Trouble.NoMemory) }
 {
     match value {
         Value::Float(_number) => Err(Trouble::Kind),
@@ -75,7 +77,8 @@ fn place_of(channel: Channel) -> usize
 
 /// The colour with another number in this place.
 pub fn with_channel(colour: [Fix; 5], channel: Channel, value: Value) -> Result<[Fix; 5], Trouble>
-    ensures { result ≡ with_channel colour channel value }
+    ensures value { result ≡ with_channel colour channel value }
+    ensures memory { IfErr result (λ trouble. trouble ≢ Trouble.NoMemory) }
 {
     match value {
         Value::Float(a) => Ok(changed(colour, place_of(channel), a)),
@@ -105,7 +108,8 @@ fn along(v: V3, axis: Axis) -> Fix
 
 /// A component of a vector or of a colour.
 pub fn taken(part: Component, value: Value) -> Result<Value, Trouble>
-    ensures { result ≡ component part value }
+    ensures value { result ≡ component part value }
+    ensures memory { IfErr result (λ trouble. trouble ≢ Trouble.NoMemory) }
 {
     match part {
         Component::Axis(axis) => taken_along(axis, value),
@@ -114,7 +118,8 @@ pub fn taken(part: Component, value: Value) -> Result<Value, Trouble>
 }
 
 fn taken_along(axis: Axis, value: Value) -> Result<Value, Trouble>
-    ensures { result ≡ component (Component.Axis axis) value }
+    ensures value { result ≡ component (Component.Axis axis) value }
+    ensures memory { IfErr result (λ trouble. trouble ≢ Trouble.NoMemory) }
 {
     match value {
         Value::Float(_number) => Err(Trouble::Kind),
@@ -125,7 +130,8 @@ fn taken_along(axis: Axis, value: Value) -> Result<Value, Trouble>
 }
 
 fn taken_at(channel: Channel, value: Value) -> Result<Value, Trouble>
-    ensures { result ≡ component (Component.Channel channel) value }
+    ensures value { result ≡ component (Component.Channel channel) value }
+    ensures memory { IfErr result (λ trouble. trouble ≢ Trouble.NoMemory) }
 {
     match value {
         Value::Float(_number) => Err(Trouble::Kind),
@@ -139,7 +145,8 @@ fn taken_at(channel: Channel, value: Value) -> Result<Value, Trouble>
 pub fn grouped(values: &[Value]) -> Result<Value, Trouble>
     requires least { 3 ≤ length values.now }
     requires most { length values.now ≤ 5 }
-    ensures { result ≡ grouped values.now }
+    ensures value { result ≡ grouped values.now }
+    ensures memory { IfErr result (λ trouble. trouble ≢ Trouble.NoMemory) }
 {
     let x = number_in(&values[0])?;
     let y = number_in(&values[1])?;
@@ -156,7 +163,8 @@ pub fn grouped(values: &[Value]) -> Result<Value, Trouble>
 }
 
 fn number_in(value: &Value) -> Result<Fix, Trouble>
-    ensures { result ≡ number_in value.now }
+    ensures value { result ≡ number_in value.now }
+    ensures memory { IfErr result (λ trouble. trouble ≢ Trouble.NoMemory) }
 {
     match value {
         Value::Float(number) => Ok(*number),

@@ -1,5 +1,5 @@
 // What stands at a place among the tokens.
-ghost use Rattle.std.specs.Prelude.{◌≡◌, ◌≢◌, ◌≤◌, ◌<◌, IfOk, length};
+ghost use Rattle.std.specs.Prelude.{◌≡◌, ◌≢◌, ◌≤◌, ◌<◌, ◌+◌, IfOk, IfErr, length};
 ghost use Rattle.scene_expr.specs.Heads.{place_at, sign_at, text_at, channel_at, component_at, sign_head, word_head, head_at, passed};
 
 use crate::operators::{Prefix, prefix_of};
@@ -165,6 +165,8 @@ pub fn passed(code: u8, tokens: &[Token], at: usize) -> Result<usize, ExprFault>
     requires { code ≢ 0 }
     ensures value { result ≡ passed code tokens.now at }
     ensures within { IfOk result (λ next. next ≤ length tokens.now) }
+    ensures behind { IfOk result (λ next. next ≡ at + 1) }
+    ensures memory { IfErr result (λ f. f ≢ ExprFault.NoMemory) }
 {
     if sign_at(tokens, at) == code {
         Ok(at + 1)

@@ -1,5 +1,5 @@
 // The operators between values, and before them. (Reference manual, operators)
-ghost use Rattle.std.specs.Prelude.{◌≡◌, ◌<◌, ◌+◌, ◌∷◌, [], map, neg_ℤ, if◌then◌else◌};
+ghost use Rattle.std.specs.Prelude.{◌≡◌, ◌≢◌, IfErr, ◌<◌, ◌+◌, ◌∷◌, [], map, neg_ℤ, if◌then◌else◌};
 ghost use Rattle.scene_expr.specs.Grammar.{tier_operator, is_repeated};
 ghost use Rattle.scene_expr.specs.Values.{answer, float};
 ghost use Rattle.scene_expr.specs.Operators.{
@@ -86,7 +86,8 @@ impl Arithmetic {
     }
 
     fn floats(self, a: Fix, b: Fix) -> Result<Value, Trouble>
-        ensures { result ≡ float (calculated self a b) }
+        ensures value { result ≡ float (calculated self a b) }
+        ensures memory { IfErr result (λ trouble. trouble ≢ Trouble.NoMemory) }
     {
         match self.calculated(a, b) {
             Ok(number) => Ok(Value::Float(number)),
@@ -95,7 +96,8 @@ impl Arithmetic {
     }
 
     fn vectors(self, v: V3, w: V3) -> Result<Value, Trouble>
-        ensures { result ≡ vectors (calculated self) v w }
+        ensures value { result ≡ vectors (calculated self) v w }
+        ensures memory { IfErr result (λ trouble. trouble ≢ Trouble.NoMemory) }
     {
         vector_from(
             self.calculated(v.x, w.x),
@@ -105,7 +107,8 @@ impl Arithmetic {
     }
 
     fn colours(self, c: &[Fix; 5], d: &[Fix; 5]) -> Result<Value, Trouble>
-        ensures { result ≡ colours (calculated self) c.now d.now }
+        ensures value { result ≡ colours (calculated self) c.now d.now }
+        ensures memory { IfErr result (λ trouble. trouble ≢ Trouble.NoMemory) }
     {
         colour_from(
             self.calculated(c[0], d[0]),
@@ -117,7 +120,8 @@ impl Arithmetic {
     }
 
     fn applied(self, left: Value, right: Value) -> Result<Value, Trouble>
-        ensures { result ≡ arithmetic_of (calculated self) left right }
+        ensures value { result ≡ arithmetic_of (calculated self) left right }
+        ensures memory { IfErr result (λ trouble. trouble ≢ Trouble.NoMemory) }
     {
         match left {
             Value::Float(a) => self.with_float(a, right),
@@ -128,7 +132,8 @@ impl Arithmetic {
     }
 
     fn with_float(self, a: Fix, right: Value) -> Result<Value, Trouble>
-        ensures { result ≡ arithmetic_of (calculated self) (Value.Float a) right }
+        ensures value { result ≡ arithmetic_of (calculated self) (Value.Float a) right }
+        ensures memory { IfErr result (λ trouble. trouble ≢ Trouble.NoMemory) }
     {
         match right {
             Value::Float(b) => self.floats(a, b),
@@ -139,7 +144,8 @@ impl Arithmetic {
     }
 
     fn with_vector(self, v: V3, right: Value) -> Result<Value, Trouble>
-        ensures { result ≡ arithmetic_of (calculated self) (Value.Vector v) right }
+        ensures value { result ≡ arithmetic_of (calculated self) (Value.Vector v) right }
+        ensures memory { IfErr result (λ trouble. trouble ≢ Trouble.NoMemory) }
     {
         match right {
             Value::Float(b) => self.vectors(v, repeated(b)),
@@ -150,7 +156,8 @@ impl Arithmetic {
     }
 
     fn with_colour(self, c: [Fix; 5], right: Value) -> Result<Value, Trouble>
-        ensures { result ≡ arithmetic_of (calculated self) (Value.Color c) right }
+        ensures value { result ≡ arithmetic_of (calculated self) (Value.Color c) right }
+        ensures memory { IfErr result (λ trouble. trouble ≢ Trouble.NoMemory) }
     {
         match right {
             Value::Float(b) => self.colours(&c, &[b; 5]),
@@ -209,7 +216,8 @@ fn vector_from(
     y: Result<Fix, NumFault>,
     z: Result<Fix, NumFault>,
 ) -> Result<Value, Trouble>
-    ensures { result ≡ answer (λ numbers. Value.Vector (vector_of numbers)) (all_of (x ∷ y ∷ z ∷ [])) }
+    ensures value { result ≡ answer (λ numbers. Value.Vector (vector_of numbers)) (all_of (x ∷ y ∷ z ∷ [])) }
+    ensures memory { IfErr result (λ trouble. trouble ≢ Trouble.NoMemory) }
 {
     if is_zero_divisor(&x) || is_zero_divisor(&y) || is_zero_divisor(&z) {
         return Err(Trouble::ZeroDivisor);
@@ -231,7 +239,8 @@ fn colour_from(
     filter: Result<Fix, NumFault>,
     transmit: Result<Fix, NumFault>,
 ) -> Result<Value, Trouble>
-    ensures { result ≡ answer Value.Color (all_of (red ∷ green ∷ blue ∷ filter ∷ transmit ∷ [])) }
+    ensures value { result ≡ answer Value.Color (all_of (red ∷ green ∷ blue ∷ filter ∷ transmit ∷ [])) }
+    ensures memory { IfErr result (λ trouble. trouble ≢ Trouble.NoMemory) }
 {
     if is_zero_divisor(&red)
         || is_zero_divisor(&green)
@@ -273,7 +282,8 @@ impl Comparison {
     }
 
     fn applied(self, left: Value, right: Value) -> Result<Value, Trouble>
-        ensures { result ≡ on_floats (λ a b. truth (compares self a b)) left right }
+        ensures value { result ≡ on_floats (λ a b. truth (compares self a b)) left right }
+        ensures memory { IfErr result (λ trouble. trouble ≢ Trouble.NoMemory) }
     {
         let Value::Float(a) = left else {
             return Err(Trouble::Kind);
@@ -296,7 +306,8 @@ impl Connective {
     }
 
     fn applied(self, left: Value, right: Value) -> Result<Value, Trouble>
-        ensures { result ≡ on_floats (λ a b. truth (connects self (is_true a) (is_true b))) left right }
+        ensures value { result ≡ on_floats (λ a b. truth (connects self (is_true a) (is_true b))) left right }
+        ensures memory { IfErr result (λ trouble. trouble ≢ Trouble.NoMemory) }
     {
         let Value::Float(a) = left else {
             return Err(Trouble::Kind);
@@ -327,7 +338,8 @@ fn truth(holds: bool) -> Value
 
 /// What an operator makes of its two sides.
 pub fn applied(operator: Operator, left: Value, right: Value) -> Result<Value, Trouble>
-    ensures { result ≡ applied operator left right }
+    ensures value { result ≡ applied operator left right }
+    ensures memory { IfErr result (λ trouble. trouble ≢ Trouble.NoMemory) }
 {
     match operator {
         Operator::Arithmetic(one) => one.applied(left, right),
@@ -338,7 +350,8 @@ pub fn applied(operator: Operator, left: Value, right: Value) -> Result<Value, T
 
 /// What a sign makes of the value behind it.
 pub fn prefixed(sign: Prefix, value: Value) -> Result<Value, Trouble>
-    ensures { result ≡ prefixed sign value }
+    ensures value { result ≡ prefixed sign value }
+    ensures memory { IfErr result (λ trouble. trouble ≢ Trouble.NoMemory) }
 {
     match sign {
         Prefix::Minus => negated(value),
@@ -348,7 +361,8 @@ pub fn prefixed(sign: Prefix, value: Value) -> Result<Value, Trouble>
 }
 
 fn negated(value: Value) -> Result<Value, Trouble>
-    ensures { result ≡ prefixed Prefix.Minus value }
+    ensures value { result ≡ prefixed Prefix.Minus value }
+    ensures memory { IfErr result (λ trouble. trouble ≢ Trouble.NoMemory) }
 {
     match value {
         Value::Float(a) => Ok(Value::Float(a.negated())),
@@ -375,7 +389,8 @@ fn negated_numbers(c: &[Fix; 5]) -> [Fix; 5]
 }
 
 fn kept(value: Value) -> Result<Value, Trouble>
-    ensures { result ≡ prefixed Prefix.Plus value }
+    ensures value { result ≡ prefixed Prefix.Plus value }
+    ensures memory { IfErr result (λ trouble. trouble ≢ Trouble.NoMemory) }
 {
     match value {
         Value::Float(a) => Ok(Value::Float(a)),
@@ -386,7 +401,8 @@ fn kept(value: Value) -> Result<Value, Trouble>
 }
 
 fn denied(value: Value) -> Result<Value, Trouble>
-    ensures { result ≡ prefixed Prefix.Not value }
+    ensures value { result ≡ prefixed Prefix.Not value }
+    ensures memory { IfErr result (λ trouble. trouble ≢ Trouble.NoMemory) }
 {
     match value {
         Value::Float(a) => Ok(truth(!is_true(a))),
@@ -398,7 +414,8 @@ fn denied(value: Value) -> Result<Value, Trouble>
 
 /// The second or the third part of a choice.
 pub fn chosen(condition: Value, first: Value, second: Value) -> Result<Value, Trouble>
-    ensures { result ≡ chosen condition first second }
+    ensures value { result ≡ chosen condition first second }
+    ensures memory { IfErr result (λ trouble. trouble ≢ Trouble.NoMemory) }
 {
     match condition {
         Value::Float(a) => { if is_true(a) { Ok(first) } else { Ok(second) } }

@@ -1,15 +1,17 @@
 // Expressions, read level by level over one position. (Reference manual, expressions)
 // Values are read in place, so that a depth takes little of the stack.
-ghost use Rattle.std.specs.Prelude.{◌≡◌, ◌≢◌, ◌≤◌, ◌<◌, ◌+◌, ◌∷◌, ◌++◌, ℕ, suc, nat_eq, length, [], IfOk, IfErr, OnOk, IsTrue, Ok, Err};
+ghost use Rattle.std.specs.Prelude.{◌≡◌, ◌≢◌, ◌≤◌, ◌<◌, ◌+◌, ◌∷◌, ◌++◌, ℕ, suc, nat_eq, length, drop, [], IfOk, IfErr, OnOk, OnErr, IsTrue, true, Ok, Err};
 ghost use Rattle.scene_expr.specs.Grammar.{goes_on, made, marked, with_component, inner, inner_of, IsRow, IsOpening, IsBranched, IsBare, IsDotted, IsFactor, IsTier, IsChoice, IsValue};
 ghost use Rattle.scene_expr.specs.Grammar.Inner.{Choice, Sum, Factor};
-ghost use Rattle.scene_expr.specs.Calls.{called};
+ghost use Rattle.scene_expr.specs.Calls.{called, makes_text};
 ghost use Rattle.scene_expr.specs.Colours.{grouped};
 ghost use Rattle.scene_expr.specs.Heads.{component_at, head_at, place_at, text_at};
 ghost use Rattle.scene_expr.specs.Operators.{applied, chosen};
+ghost use Rattle.scene_expr.specs.Memory.{needs_memory};
 ghost use Rattle.scene_expr.specs.Steps.{at_depths, read};
 ghost use Rattle.scene_expr.specs.Texts.{text_value};
 ghost use Rattle.scene_expr.specs.Values.{AreWhole};
+ghost use Rattle.scene_expr.specs.declared.heads.Head.{Head};
 ghost use Rattle.scene_expr.specs.declared.heads.Opener.{Opener};
 ghost use Rattle.scene_expr.specs.declared.value.ExprFault.TheVariants.{NoMemory};
 
@@ -48,6 +50,7 @@ fn settle(
 ) -> Result<(), ExprFault>
     ensures ok { OnOk result ((next : ℕ) → made (outcome) (place_at tokens.now at) next ≡ Ok (read value.new next)) }
     ensures fault { IfErr result (λ f. (next : ℕ) → made (outcome) (place_at tokens.now at) next ≡ Err f) }
+    ensures memory { IfErr result (λ f. f ≡ NoMemory → outcome ≡ Err Trouble.NoMemory) }
 {
     match outcome {
         Ok(made) => {
@@ -69,6 +72,7 @@ fn operate(
 ) -> Result<(), ExprFault>
     ensures ok { OnOk result ((next : ℕ) → made (applied operator value.old right.old) (place_at tokens.now at) next ≡ Ok (read value.new next)) }
     ensures fault { IfErr result (λ f. (next : ℕ) → made (applied operator value.old right.old) (place_at tokens.now at) next ≡ Err f) }
+    ensures memory { IfErr result (λ f. f ≢ NoMemory) }
 {
     let outcome = applied(operator, take(value), take(right));
     settle(tokens, outcome, at, value)
@@ -85,13 +89,15 @@ fn choose(
 ) -> Result<(), ExprFault>
     ensures ok { OnOk result ((next : ℕ) → made (chosen condition.old value.old second.old) (place_at tokens.now at) next ≡ Ok (read value.new next)) }
     ensures fault { IfErr result (λ f. (next : ℕ) → made (chosen condition.old value.old second.old) (place_at tokens.now at) next ≡ Err f) }
+    ensures memory { IfErr result (λ f. f ≢ NoMemory) }
 {
     let outcome = chosen(take(condition), take(value), take(second));
     settle(tokens, outcome, at, value)
 }
 
 fn marked(mark: Mark, value: Value) -> Result<Value, Trouble>
-    ensures { result ≡ marked mark value }
+    ensures value { result ≡ marked mark value }
+    ensures memory { IfErr result (λ trouble. trouble ≢ Trouble.NoMemory) }
 {
     match mark {
         Mark::Sign(sign) => prefixed(sign, value),
@@ -105,6 +111,7 @@ fn marked(mark: Mark, value: Value) -> Result<Value, Trouble>
 fn mark_in(tokens: &[Token], mark: Mark, at: usize, value: &mut Value) -> Result<(), ExprFault>
     ensures ok { OnOk result ((next : ℕ) → made (marked mark value.old) (place_at tokens.now at) next ≡ Ok (read value.new next)) }
     ensures fault { IfErr result (λ f. (next : ℕ) → made (marked mark value.old) (place_at tokens.now at) next ≡ Err f) }
+    ensures memory { IfErr result (λ f. f ≢ NoMemory) }
 {
     let outcome = marked(mark, take(value));
     settle(tokens, outcome, at, value)
@@ -122,6 +129,7 @@ fn group_in(
     requires most { length numbers.now ≤ 5 }
     ensures ok { OnOk result ((next : ℕ) → made (grouped numbers.now) (place_at tokens.now at) next ≡ Ok (read value.new next)) }
     ensures fault { IfErr result (λ f. (next : ℕ) → made (grouped numbers.now) (place_at tokens.now at) next ≡ Err f) }
+    ensures memory { IfErr result (λ f. f ≢ NoMemory) }
 {
     settle(tokens, grouped(numbers), at, value)
 }
@@ -138,6 +146,7 @@ fn call_in(
 ) -> Result<(), ExprFault>
     ensures ok { OnOk result ((next : ℕ) → made (called call arguments.now) (place_at tokens.now at) next ≡ Ok (read value.new next)) }
     ensures fault { IfErr result (λ f. f ≢ NoMemory → (next : ℕ) → made (called call arguments.now) (place_at tokens.now at) next ≡ Err f) }
+    ensures memory { IfErr result (λ f. f ≡ NoMemory → makes_text call ≡ true) }
 {
     settle(tokens, called(alloc, call, arguments), at, value)
 }
@@ -155,6 +164,7 @@ fn literal(alloc: Global, tokens: &[Token], at: usize, value: &mut Value) -> Res
 fn goes_on(tokens: &[Token], arity: Arity, count: usize, at: usize) -> Result<bool, ExprFault>
     ensures value { result ≡ goes_on arity count tokens.now at }
     ensures within { IfOk result (λ more. IsTrue more → at < length tokens.now) }
+    ensures memory { IfErr result (λ f. f ≢ NoMemory) }
 {
     let may = match arity.most {
         Some(most) => count < most,
@@ -175,6 +185,7 @@ fn with_component(tokens: &[Token], at: usize, value: &mut Value) -> Result<(), 
     requires { at < length tokens.now }
     ensures ok { OnOk result (with_component tokens.now (read value.old at) (component_at tokens.now (at + 1)) ≡ Ok (read value.new (at + 2))) }
     ensures fault { IfErr result (λ f. with_component tokens.now (read value.old at) (component_at tokens.now (at + 1)) ≡ Err f) }
+    ensures memory { IfErr result (λ f. f ≢ NoMemory) }
     ensures within { OnOk result (at + 2 ≤ length tokens.now) }
 {
     match component_at(tokens, at + 1) {
@@ -191,6 +202,7 @@ fn dotted(tokens: &[Token], at: usize, value: &mut Value) -> Result<usize, ExprF
     requires { at ≤ length tokens.now }
     ensures found { IfOk result (λ next. IsDotted tokens.now (read value.old at) (Ok (read value.new next))) }
     ensures fault { IfErr result (λ f. IsDotted tokens.now (read value.old at) (Err f)) }
+    ensures memory { IfErr result (λ f. f ≢ NoMemory) }
     ensures within { IfOk result (λ next. (at ≤ next) × (next ≤ length tokens.now)) }
 {
     let mut next = at;
@@ -218,6 +230,7 @@ fn marked_at(
     requires whole { AreWhole set.now }
     ensures found { IfOk result (λ next. IsOpening tokens.now (inner tokens.now set.now (suc depths)) (Opener.Mark mark) at (Ok (read value.new next))) }
     ensures fault { IfErr result (λ f. f ≢ NoMemory → IsOpening tokens.now (inner tokens.now set.now (suc depths)) (Opener.Mark mark) at (Err f)) }
+    ensures memory { IfErr result (λ f. f ≡ NoMemory → IsTrue (needs_memory (drop at tokens.now))) }
     ensures within { IfOk result (λ next. (at ≤ next) × (next ≤ length tokens.now)) }
 {
     let next = factor(alloc, tokens, set, at + 1, depths, value)?;
@@ -239,6 +252,7 @@ fn bracketed(
     requires whole { AreWhole set.now }
     ensures found { IfOk result (λ next. IsOpening tokens.now (inner tokens.now set.now (suc depths)) Opener.Bracket at (Ok (read value.new next))) }
     ensures fault { IfErr result (λ f. f ≢ NoMemory → IsOpening tokens.now (inner tokens.now set.now (suc depths)) Opener.Bracket at (Err f)) }
+    ensures memory { IfErr result (λ f. f ≡ NoMemory → IsTrue (needs_memory (drop at tokens.now))) }
     ensures within { IfOk result (λ next. (at ≤ next) × (next ≤ length tokens.now)) }
 {
     let inside = choice(alloc, tokens, set, at + 1, depths, value)?;
@@ -261,6 +275,7 @@ fn grouped_at(
     requires whole { AreWhole set.now }
     ensures found { IfOk result (λ next. IsOpening tokens.now (inner tokens.now set.now (suc depths)) Opener.Angle at (Ok (read value.new next))) }
     ensures fault { IfErr result (λ f. f ≢ NoMemory → IsOpening tokens.now (inner tokens.now set.now (suc depths)) Opener.Angle at (Err f)) }
+    ensures memory { IfErr result (λ f. f ≡ NoMemory → IsTrue (needs_memory (drop at tokens.now))) }
     ensures within { IfOk result (λ next. (at ≤ next) × (next ≤ length tokens.now)) }
 {
     let mut values = SmallVec::new(alloc);
@@ -292,9 +307,11 @@ fn called_at(
     value: &mut Value,
 ) -> Result<usize, ExprFault>
     requires within { at < length tokens.now }
+    requires head { head_at tokens.now at ≡ Head.Opener (Opener.Call call) }
     requires whole { AreWhole set.now }
     ensures found { IfOk result (λ next. IsOpening tokens.now (inner tokens.now set.now (suc depths)) (Opener.Call call) at (Ok (read value.new next))) }
     ensures fault { IfErr result (λ f. f ≢ NoMemory → IsOpening tokens.now (inner tokens.now set.now (suc depths)) (Opener.Call call) at (Err f)) }
+    ensures memory { IfErr result (λ f. f ≡ NoMemory → IsTrue (needs_memory (drop at tokens.now))) }
     ensures within { IfOk result (λ next. (at ≤ next) × (next ≤ length tokens.now)) }
 {
     let start = passed(sign::OPEN_BRACKET, tokens, at + 1)?;
@@ -329,6 +346,7 @@ fn channels(
     requires whole { AreWhole set.now }
     ensures found { IfOk result (λ next. IsOpening tokens.now (inner tokens.now set.now (suc depths)) Opener.Channels at (Ok (read value.new next))) }
     ensures fault { IfErr result (λ f. f ≢ NoMemory → IsOpening tokens.now (inner tokens.now set.now (suc depths)) Opener.Channels at (Err f)) }
+    ensures memory { IfErr result (λ f. f ≡ NoMemory → IsTrue (needs_memory (drop at tokens.now))) }
     ensures within { IfOk result (λ next. (at ≤ next) × (next ≤ length tokens.now)) }
 {
     let mut colour = black();
@@ -357,9 +375,11 @@ fn opened(
     value: &mut Value,
 ) -> Result<usize, ExprFault>
     requires within { at < length tokens.now }
+    requires head { head_at tokens.now at ≡ Head.Opener opener }
     requires whole { AreWhole set.now }
     ensures found { IfOk result (λ next. IsOpening tokens.now (inner tokens.now set.now (suc depths)) opener at (Ok (read value.new next))) }
     ensures fault { IfErr result (λ f. f ≢ NoMemory → IsOpening tokens.now (inner tokens.now set.now (suc depths)) opener at (Err f)) }
+    ensures memory { IfErr result (λ f. f ≡ NoMemory → IsTrue (needs_memory (drop at tokens.now))) }
     ensures within { IfOk result (λ next. (at ≤ next) × (next ≤ length tokens.now)) }
 {
     match opener {
@@ -374,8 +394,11 @@ fn opened(
 /// Adds a part to those that stand before it.
 #[inline(never)]
 fn push(values: &mut SmallVec<Value, 5>, value: &mut Value) -> Result<(), ExprFault>
+    requires room { 5 ≤ values.old.capacity }
     ensures ok { OnOk result (values.new.items ≡ values.old.items ++ value.old ∷ []) }
     ensures fault { IfErr result (λ f. f ≡ NoMemory) }
+    ensures memory { OnErr result (5 ≤ length values.old.items) }
+    ensures room { 5 ≤ values.new.capacity }
 {
     if values.push(take(value)).is_err() {
         return Err(ExprFault::NoMemory);
@@ -398,8 +421,10 @@ fn row(
     requires within { at ≤ length tokens.now }
     requires whole { AreWhole set.now }
     requires empty { values.old.items ≡ [] }
+    requires room { 5 ≤ values.old.capacity }
     ensures found { IfOk result (λ next. IsRow tokens.now (inner tokens.now set.now (suc depths) (inner_of level)) arity [] at (Ok (record { values = values.new.items; next = next }))) }
     ensures fault { IfErr result (λ f. f ≢ NoMemory → IsRow tokens.now (inner tokens.now set.now (suc depths) (inner_of level)) arity [] at (Err f)) }
+    ensures memory { IfErr result (λ f. f ≡ NoMemory → IsTrue (needs_memory (drop at tokens.now))) }
     ensures within { IfOk result (λ next. (at ≤ next) × (next ≤ length tokens.now)) }
 {
     let mut next = at;
@@ -431,6 +456,7 @@ fn bare(
     requires whole { AreWhole set.now }
     ensures found { IfOk result (λ next. IsBare tokens.now set.now (nat_eq depths 0) (inner tokens.now set.now depths) (head_at tokens.now at) at (Ok (read value.new next))) }
     ensures fault { IfErr result (λ f. f ≢ NoMemory → IsBare tokens.now set.now (nat_eq depths 0) (inner tokens.now set.now depths) (head_at tokens.now at) at (Err f)) }
+    ensures memory { IfErr result (λ f. f ≡ NoMemory → IsTrue (needs_memory (drop at tokens.now))) }
     ensures within { IfOk result (λ next. (at ≤ next) × (next ≤ length tokens.now)) }
 {
     match head_at(tokens, at) {
@@ -471,6 +497,7 @@ fn factor(
     requires whole { AreWhole set.now }
     ensures found { IfOk result (λ next. at_depths IsFactor tokens.now set.now depths at (Ok (read value.new next))) }
     ensures fault { IfErr result (λ f. f ≢ NoMemory → at_depths IsFactor tokens.now set.now depths at (Err f)) }
+    ensures memory { IfErr result (λ f. f ≡ NoMemory → IsTrue (needs_memory (drop at tokens.now))) }
     ensures within { IfOk result (λ next. (at ≤ next) × (next ≤ length tokens.now)) }
 {
     let end = bare(alloc, tokens, set, at, depths, value)?;
@@ -499,6 +526,7 @@ fn level(
     requires whole { AreWhole set.now }
     ensures found { IfOk result (λ next. at_depths (IsTier tiers) tokens.now set.now depths at (Ok (read value.new next))) }
     ensures fault { IfErr result (λ f. f ≢ NoMemory → at_depths (IsTier tiers) tokens.now set.now depths at (Err f)) }
+    ensures memory { IfErr result (λ f. f ≡ NoMemory → IsTrue (needs_memory (drop at tokens.now))) }
     ensures within { IfOk result (λ next. (at ≤ next) × (next ≤ length tokens.now)) }
 {
     let mut next = factor(alloc, tokens, set, at, depths, value)?;
@@ -535,6 +563,7 @@ fn branched(
     requires whole { AreWhole set.now }
     ensures found { IfOk result (λ next. IsBranched tokens.now (inner tokens.now set.now (suc depths) Choice) (read value.old at) (Ok (read value.new next))) }
     ensures fault { IfErr result (λ f. f ≢ NoMemory → IsBranched tokens.now (inner tokens.now set.now (suc depths) Choice) (read value.old at) (Err f)) }
+    ensures memory { IfErr result (λ f. f ≡ NoMemory → IsTrue (needs_memory (drop at tokens.now))) }
     ensures within { IfOk result (λ next. (at ≤ next) × (next ≤ length tokens.now)) }
 {
     let mut condition = take(value);
@@ -560,6 +589,7 @@ fn choice(
     requires whole { AreWhole set.now }
     ensures found { IfOk result (λ next. at_depths IsChoice tokens.now set.now depths at (Ok (read value.new next))) }
     ensures fault { IfErr result (λ f. f ≢ NoMemory → at_depths IsChoice tokens.now set.now depths at (Err f)) }
+    ensures memory { IfErr result (λ f. f ≡ NoMemory → IsTrue (needs_memory (drop at tokens.now))) }
     ensures within { IfOk result (λ next. (at ≤ next) × (next ≤ length tokens.now)) }
 {
     let asked = level(alloc, tokens, set, at, depths, ALL, value)?;
@@ -588,6 +618,7 @@ fn part(
     requires whole { AreWhole set.now }
     ensures found { IfOk result (λ next. inner tokens.now set.now (suc depths) (inner_of part_level) at (Ok (read value.new next))) }
     ensures fault { IfErr result (λ f. f ≢ NoMemory → inner tokens.now set.now (suc depths) (inner_of part_level) at (Err f)) }
+    ensures memory { IfErr result (λ f. f ≡ NoMemory → IsTrue (needs_memory (drop at tokens.now))) }
     ensures within { IfOk result (λ next. (at ≤ next) × (next ≤ length tokens.now)) }
 {
     match part_level {
@@ -598,6 +629,7 @@ fn part(
 
 /// The value of the longest expression of a level that begins at the token `at`, and the number of
 /// the token behind it, or the first fault. The position only goes forward, and no token is copied.
+/// Only a text, or a sixth part of a row, takes memory.
 pub fn eval(
     alloc: Global,
     tokens: &[Token],
@@ -609,6 +641,7 @@ pub fn eval(
     requires whole { AreWhole set.now }
     ensures found { IfOk result (λ found. IsValue tokens.now set.now level at (Ok (record { value = found.0; next = found.1 }))) }
     ensures fault { IfErr result (λ f. f ≢ NoMemory → IsValue tokens.now set.now level at (Err f)) }
+    ensures memory { IfErr result (λ f. f ≡ NoMemory → IsTrue (needs_memory (drop at tokens.now))) }
     ensures within { IfOk result (λ found. (at ≤ found.1) × (found.1 ≤ length tokens.now)) }
 {
     let mut value = Value::default();

@@ -1,5 +1,5 @@
 // What expressions are worth, and why one has no value.
-ghost use Rattle.std.specs.Prelude.{◌≡◌, pos};
+ghost use Rattle.std.specs.Prelude.{◌≡◌, ◌≢◌, pos};
 ghost use Rattle.scene_expr.specs.Values.{fault_at, trouble_of};
 
 use fix_math::{Fix, NumFault, Str, V3};
@@ -77,7 +77,8 @@ pub enum Trouble {
 impl Trouble {
     /// The fault of the operator or call that stands here.
     pub fn at(self, place: Place) -> ExprFault
-        ensures { result ≡ fault_at self place }
+        ensures value { result ≡ fault_at self place }
+        ensures memory { result ≡ ExprFault.NoMemory → self ≡ Trouble.NoMemory }
     {
         match self {
             Trouble::Kind => ExprFault::Kind(place),
@@ -89,7 +90,8 @@ impl Trouble {
 
     /// The trouble with a calculation of numbers.
     pub fn of(fault: NumFault) -> Trouble
-        ensures { result ≡ trouble_of fault }
+        ensures value { result ≡ trouble_of fault }
+        ensures memory { result ≢ Trouble.NoMemory }
     {
         match fault {
             NumFault::ZeroDivisor => Trouble::ZeroDivisor,

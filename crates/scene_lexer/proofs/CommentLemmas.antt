@@ -1,14 +1,13 @@
 -- Comments at the start of a text.
-use Rattle.std.proofs.Common.{◌≡◌, ℕ, zero, suc, ◌+◌, ◌-◌, ◌<◌, ◌≤◌, Bool, true, false, cond, ◌&&◌, ◌||◌, ◌==◌, nat_le, nat_eq, List, [], ◌∷◌, length, take, drop, refl, sym, ap, ◌∙◌, subst, arith, inl, inr, Result, Ok, Err, Option, Some, None, is_none, get_or}
+use Rattle.std.proofs.Common.{◌≡◌, ℕ, zero, suc, ◌+◌, ◌-◌, ◌<◌, ◌≤◌, Bool, true, false, cond, ◌&&◌, ◌||◌, ◌==◌, nat_le, List, [], ◌∷◌, length, take, drop, refl, sym, ap, ◌∙◌, subst, arith, inl, inr, Result, Ok, Err, Some, None, is_none, get_or}
 use Rattle.std.specs.List.{prefix_len, list_all}
-use Rattle.std.proofs.lemmas.Bool.{false≢true, cases_lt, cases_Bool, eqb-true}
+use Rattle.std.proofs.lemmas.Bool.{false≢true, cases_Bool, eqb-true}
 use Rattle.std.proofs.lemmas.Bool.Decides.{nat_tests}
 use Rattle.std.proofs.lemmas.List.{length-drop, drop-drop, take_all, drop_more, drop_all}
 use Rattle.std.proofs.lemmas.List.Sums.{prefix_len-le-length}
-use Rattle.scene_lexer.specs.Bytes.{is_white, is_letter, is_word}
-use Rattle.scene_lexer.specs.Spellings.{longest, is_white_space, is_line_comment, is_block_comment, is_open_comment, is_gap, is_text, is_sign, is_piece, opens_comment, closes_comment, opens_line_comment, is_in_line, mark_tail, depth_after, comment_rest, ends_there}
-use Rattle.scene_lexer.specs.Tokens.{kind_of, piece_tokens, front_of, tokens_at}
-use Rattle.scene_lexer.specs.Steps.{IsClosedComment, IsFound, found_tokens, line_feeds}
+use Rattle.scene_lexer.specs.Spellings.{longest, is_white_space, is_line_comment, is_block_comment, is_open_comment, is_gap, is_sign, is_piece, opens_comment, closes_comment, opens_line_comment, is_in_line, mark_tail, depth_after, comment_rest, ends_there}
+use Rattle.scene_lexer.specs.Tokens.{piece_tokens, front_of, tokens_at}
+use Rattle.scene_lexer.specs.Steps.{IsClosedComment, IsFound, line_feeds}
 use Rattle.scene_lexer.specs.declared.found.Found.{Found}
 use Rattle.scene_lexer.specs.declared.token.Place.{Place}
 use Rattle.scene_lexer.specs.declared.token.Token.{Token}

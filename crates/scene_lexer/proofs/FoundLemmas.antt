@@ -1,25 +1,24 @@
 -- What a text begins with, by its first byte: words and numbers.
-use Rattle.std.proofs.Common.{◌≡◌, ℕ, zero, suc, ◌+◌, ◌-◌, ◌<◌, ◌≤◌, min, Bool, true, false, cond, ◌&&◌, ◌||◌, not, ◌==◌, nat_lt, nat_le, List, [], ◌∷◌, ◌++◌, length, take, drop, refl, sym, ap, ◌∙◌, subst, arith, rules, ◌⊎◌, inl, inr, Result, Ok, Err, slice_index, codes, Option, Some, None}
-use Rattle.std.specs.List.{prefix_len, count_by, sum_by, list_any}
+use Rattle.std.proofs.Common.{◌≡◌, ℕ, zero, suc, ◌+◌, ◌<◌, ◌≤◌, Bool, true, false, cond, ◌&&◌, ◌==◌, nat_lt, nat_le, List, [], ◌∷◌, length, take, drop, refl, sym, ap, ◌∙◌, subst, arith, ◌⊎◌, inl, inr, Result, Ok, Err, slice_index, Some, None}
+use Rattle.std.specs.List.{prefix_len}
 use Rattle.std.proofs.lemmas.Bool.{false≢true, cases_lt, cases_Bool, eqb-true}
 use Rattle.std.proofs.lemmas.Bool.Decides.{nat_tests}
-use Rattle.std.proofs.lemmas.List.{append_assoc, length-take-le, take-append-drop}
-use Rattle.std.proofs.lemmas.List.Sums.{sum_by-append, sum_by-cons, prefix_len-le-length}
+use Rattle.std.proofs.lemmas.List.{length-take-le}
+use Rattle.std.proofs.lemmas.List.Sums.{prefix_len-le-length}
 use Rattle.scene_lexer.specs.Bytes.{is_white, is_digit, is_letter, is_word_byte, is_word, is_name}
-use Rattle.scene_lexer.specs.Spellings.{longest, is_sign_byte, is_gap, is_sign, is_number, is_piece, digit_count, after_digits, fraction_length, sign_length, is_exponent_mark, is_plus_or_minus, is_white_space, is_line_comment, is_block_comment}
-use Rattle.scene_lexer.specs.Tokens.{kind_of, number_of, word_of, front_of, piece_tokens, token_list, tokens_at}
-use Rattle.scene_lexer.specs.Steps.{IsFound, exponent_length, found_tokens, line_feeds}
-use Rattle.scene_lexer.specs.declared.found.Found.{Found}
+use Rattle.scene_lexer.specs.Spellings.{longest, is_gap, is_number, is_piece, digit_count, after_digits, fraction_length, sign_length, is_exponent_mark, is_plus_or_minus, is_white_space, is_line_comment, is_block_comment}
+use Rattle.scene_lexer.specs.Tokens.{kind_of, number_of, front_of, piece_tokens, tokens_at}
+use Rattle.scene_lexer.specs.Steps.{IsFound, exponent_length, line_feeds}
 use Rattle.scene_lexer.specs.declared.token.Place.{Place}
 use Rattle.scene_lexer.specs.declared.token.Token.{Token}
 use Rattle.scene_lexer.specs.declared.token.Kind.{Kind}
-use Rattle.scene_lexer.specs.declared.token.Kind.TheVariants.{Word, Number, Sign}
+use Rattle.scene_lexer.specs.declared.token.Kind.TheVariants.{Word}
 use Rattle.scene_lexer.specs.declared.token.LexFault.{LexFault}
-use Rattle.scene_lexer.specs.declared.token.LexFault.TheVariants.{BadByte, LongName}
-use Rattle.scene_lexer.proofs.LongestLemmas.{longest-is, longest-le, longest-none, longest-same, longest-passes, longest-above, list_all-take, letter-not_white, digit-not_white}
-use Rattle.scene_lexer.proofs.NumberLength.{number_ends, longest-no_digits, lt-some, and_left, and_right, and-false, take-empty}
-use Rattle.scene_lexer.proofs.PieceLemmas.{gap-false, sign-false, number-false, piece-word, piece-number, piece-sign, longest-word, longest-sign, longest-dot_number, longest-dot_sign, letter-not_slash, digit-not_slash}
-use Rattle.scene_lexer.proofs.TokensLemmas.{kind-word, kind-number, kind-sign, kind-bad, no_feeds-run, feeds-cons, word-short, word-long}
+use Rattle.scene_lexer.specs.declared.token.LexFault.TheVariants.{LongName}
+use Rattle.scene_lexer.proofs.LongestLemmas.{longest-le, longest-none, longest-same, longest-passes, letter-not_white, digit-not_white}
+use Rattle.scene_lexer.proofs.NumberLength.{number_ends, longest-no_digits, lt-some, and_left, take-empty}
+use Rattle.scene_lexer.proofs.PieceLemmas.{gap-false, number-false, piece-word, piece-number, longest-word, longest-dot_number, letter-not_slash, digit-not_slash}
+use Rattle.scene_lexer.proofs.TokensLemmas.{kind-word, kind-number, no_feeds-run, feeds-cons, word-short, word-long}
 
 pub gap-false-front : (s : List ℕ) (n : ℕ) → 0 < n → is_white (slice_index s 0) ≡ false → (47 == slice_index s 0) ≡ false → is_gap (take n s) ≡ false
 unfolding is_gap is_white_space is_line_comment is_block_comment

@@ -1,5 +1,5 @@
 -- Digits and the sizes of the numbers that they spell.
-use Rattle.std.proofs.Common.{◌≡◌, ℕ, zero, suc, ◌+◌, ◌-◌, ◌*◌, ◌/◌, ◌^◌, ◌<◌, ◌≤◌, min, Bool, true, false, cond, ◌==◌, ◌||◌, nat_lt, nat_le, List, [], ◌∷◌, ◌++◌, length, take, drop, refl, sym, ap, ◌∙◌, subst, arith, inl, inr, ◌⊎◌, ◌↔◌, get_or, unsigned_abs, Result, Ok, Err, Option, Some, None, SomeIff, ℤ, pos}
+use Rattle.std.proofs.Common.{◌≡◌, ℕ, ◌+◌, ◌-◌, ◌*◌, ◌/◌, ◌^◌, ◌<◌, ◌≤◌, min, Bool, true, false, cond, ◌||◌, nat_lt, nat_le, List, ◌++◌, length, take, drop, refl, sym, ap, ◌∙◌, subst, arith, inl, inr, ◌⊎◌, ◌↔◌, get_or, unsigned_abs, Result, Ok, Err, Option, Some, None, SomeIff, ℤ, pos}
 use Rattle.std.specs.List.{list_all}
 use Rattle.std.proofs.lemmas.Bool.{cases_lt}
 use Rattle.std.proofs.lemmas.Bool.Decides.{nat_tests}
@@ -11,7 +11,6 @@ use Rattle.scene_lexer.specs.Bytes.{is_digit}
 use Rattle.scene_lexer.specs.Spellings.{digit_count, after_digits, fraction_length}
 use Rattle.scene_lexer.specs.Tokens.{decimal_from, whole_digits, fraction_digits, exponent_part, exponent_size, is_minus_first, size_up, size_down, power_up, power_down, number_of, scaled}
 use Rattle.scene_lexer.specs.Steps.{IsScalable}
-use Rattle.fix_math.specs.Numbers.{IsInRange}
 use Rattle.scene_lexer.specs.declared.token.Place.{Place}
 use Rattle.scene_lexer.specs.declared.token.Kind.{Kind}
 use Rattle.scene_lexer.specs.declared.token.Kind.TheVariants.{Number}
@@ -175,12 +174,6 @@ scaled-down n up down h =
     let d : (down - up) - 0 ≡ down - up = omega arith in
     rw (e, z, d) refl
 
-pub scalable-up : (n up down : ℕ) → down < up → up - down ≤ 30 → (n * 10 ^ (up - down) * 65536 < 2 ^ 47) ↔ IsScalable n up down
-scalable-up n up down h ok = (λ small. record { above = ok; below = omega arith; within = subst IsInRange (sym (scaled-up n up down h)) small }, λ can. subst IsInRange (scaled-up n up down h) can.within)
-
-pub scalable-down : (n up down : ℕ) → up ≤ down → down - up ≤ 30 → IsInRange (scaled n 0 (down - up)) ↔ IsScalable n up down
-scalable-down n up down h ok = (λ small. record { above = omega arith; below = ok; within = subst IsInRange (sym (scaled-down n up down h)) small }, λ can. subst IsInRange (scaled-down n up down h) can.within)
-
 pub SomeIff-map : {T : Type 0} (r : Option T) (P Q : Type 0) (v w : T) → P ↔ Q → v ≡ w → SomeIff r P v → SomeIff r Q w
 SomeIff-map None P Q v w iff same h = λ q. h (iff.1 q)
 SomeIff-map (Some x) P Q v w iff same h = (iff.0 h.0, h.1 ∙ same)
@@ -202,10 +195,6 @@ up_fits n k small near =
     let left : n * 10 ^ k ≤ 2 ^ 31 * 10 ^ k = mul-le-mul_right (10 ^ k) (let le : n ≤ 2 ^ 31 = omega arith in le) in
     let right : 2 ^ 31 * 10 ^ k ≤ 2 ^ 31 * 10 ^ 9 = mul-le-mul_left (2 ^ 31) (ten_pow-le k 9 near) in
     omega arith
-
--- one more digit of an exponent
-pub size_more : (v m d : ℕ) → v ≡ min 100 m → min 100 (v * 10 + d) ≡ min 100 (m * 10 + d)
-size_more v m d h = omega arith
 
 -- sizes of the digits' numbers
 pub room_first : (w f : ℕ) → w + f ≤ 30 → (0 + 1) * 10 ^ w ≤ 10 ^ 30

@@ -1,14 +1,13 @@
 -- Where the number ends that a text begins with.
 use Rattle.std.proofs.Common.{◌≡◌, ℕ, zero, suc, ◌+◌, ◌-◌, ◌<◌, ◌≤◌, min, Bool, true, false, cond, ◌&&◌, ◌||◌, ◌==◌, nat_lt, List, [], ◌∷◌, length, take, drop, refl, sym, ap, ◌∙◌, subst, arith, inl, inr}
-use Rattle.std.specs.List.{prefix_len}
 use Rattle.std.proofs.lemmas.Bool.{cases_lt, cases_Bool, eqb-true, and_cases, false≢true}
 use Rattle.std.proofs.lemmas.Bool.Decides.{nat_tests}
 use Rattle.std.proofs.lemmas.List.{length-drop}
 use Rattle.std.proofs.lemmas.List.Sums.{prefix_len-le-length}
-use Rattle.scene_lexer.specs.Bytes.{is_white, is_digit, is_letter, is_word_byte, is_word}
-use Rattle.scene_lexer.specs.Spellings.{longest, is_sign_byte, is_gap, is_sign, is_number, is_number_end, is_fraction, is_piece, digit_count, after_digits, fraction_length, is_empty, is_digits, is_plus_or_minus, sign_length, is_exponent_mark}
+use Rattle.scene_lexer.specs.Bytes.{is_digit}
+use Rattle.scene_lexer.specs.Spellings.{longest, is_number, is_number_end, is_fraction, digit_count, after_digits, fraction_length, is_empty, is_digits, sign_length, is_exponent_mark}
 use Rattle.scene_lexer.specs.Steps.{exponent_length}
-use Rattle.scene_lexer.proofs.LongestLemmas.{longest-is, longest-le, longest-none, longest-passes, longest-above, list_all-take, prefix_len-take, drop_run-take, letter-not_white, letter-not_digit, digit-not_letter, digit-not_white, sign-not_letter, sign-not_digit, sign-not_white}
+use Rattle.scene_lexer.proofs.LongestLemmas.{longest-is, longest-none, prefix_len-take, drop_run-take}
 
 pub fraction-false : (b : ℕ) (s : List ℕ) → (b == 46) ≡ false → is_fraction (b ∷ s) ≡ false
 unfolding is_fraction
@@ -163,10 +162,6 @@ digits-front s m = ap (λ n. nat_lt 0 n && is_empty (after_digits (take m s))) (
 sign_length-take : (m : ℕ) (s : List ℕ) → sign_length (take (suc m) s) ≡ sign_length s
 sign_length-take m [] = refl
 sign_length-take m (b ∷ s) = refl
-
-sign_length-le : (s : List ℕ) → sign_length s ≤ 1
-sign_length-le [] = omega arith
-sign_length-le (b ∷ s) = elim (is_plus_or_minus b) as (λ v. cond v 1 0 ≤ 1) [ true ↦ omega arith | false ↦ omega arith ]
 
 drop-take-sub : (k m : ℕ) (s : List ℕ) → drop k (take m s) ≡ take (m - k) (drop k s)
 drop-take-sub zero m s = let e : m - 0 ≡ m = omega arith in rw e refl

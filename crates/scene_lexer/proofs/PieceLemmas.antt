@@ -1,14 +1,14 @@
 -- Which spelling is the longest piece at the start of a text, by its first byte.
-use Rattle.std.proofs.Common.{◌≡◌, ℕ, zero, suc, ◌+◌, ◌-◌, ◌<◌, ◌≤◌, min, Bool, true, false, cond, ◌&&◌, ◌||◌, ◌==◌, nat_lt, nat_eq, List, [], ◌∷◌, length, take, drop, refl, sym, ap, ◌∙◌, subst, arith, inl, inr, Option, None, is_some}
+use Rattle.std.proofs.Common.{◌≡◌, ℕ, zero, suc, ◌+◌, ◌<◌, ◌≤◌, Bool, true, false, cond, ◌||◌, ◌==◌, List, [], ◌∷◌, length, take, refl, sym, ap, ◌∙◌, arith, inl, inr, Option, None, is_some}
 use Rattle.std.specs.List.{prefix_len}
-use Rattle.std.proofs.lemmas.Bool.{cases_lt, cases_Bool, eqb-true, false≢true}
+use Rattle.std.proofs.lemmas.Bool.{cases_Bool, eqb-true, false≢true}
 use Rattle.std.proofs.lemmas.Bool.Decides.{nat_tests}
 use Rattle.std.proofs.lemmas.List.Sums.{prefix_len-le-length}
 use Rattle.scene_lexer.specs.Bytes.{is_white, is_digit, is_letter, is_word_byte, is_word}
-use Rattle.scene_lexer.specs.Spellings.{longest, is_sign_byte, is_white_space, is_line_comment, is_block_comment, is_open_comment, is_text, is_open_text, opens_comment, is_gap, is_sign, is_number, is_fraction, is_piece, two_byte_sign}
+use Rattle.scene_lexer.specs.Spellings.{longest, is_sign_byte, is_white_space, is_line_comment, is_block_comment, is_open_comment, is_text, is_open_text, is_gap, is_sign, is_number, is_piece, two_byte_sign}
 use Rattle.scene_lexer.specs.Steps.{two_byte_sign_of}
-use Rattle.scene_lexer.proofs.LongestLemmas.{longest-is, longest-le, longest-none, longest-same, longest-passes, longest-above, list_all-take, letter-not_white, letter-not_digit, digit-not_letter, digit-not_white, sign-not_letter, sign-not_digit, sign-not_white}
-use Rattle.scene_lexer.proofs.NumberLength.{fraction-false, and-false}
+use Rattle.scene_lexer.proofs.LongestLemmas.{longest-is, longest-le, longest-passes, longest-above, list_all-take, letter-not_white, letter-not_digit, digit-not_letter, digit-not_white, sign-not_letter, sign-not_digit, sign-not_white}
+use Rattle.scene_lexer.proofs.NumberLength.{fraction-false}
 
 pub white_space-false : (b : ℕ) (s : List ℕ) → is_white b ≡ false → is_white_space (b ∷ s) ≡ false
 unfolding is_white_space

@@ -1,15 +1,12 @@
 -- What follows the quote that ends a text, and the mark that ends a comment: in a front of a text, and in a longer one.
-use Rattle.std.proofs.Common.{◌≡◌, ℕ, zero, suc, ◌+◌, ◌-◌, ◌<◌, ◌≤◌, Bool, true, false, cond, ◌&&◌, ◌||◌, ◌==◌, nat_eq, List, [], ◌∷◌, ◌++◌, length, take, drop, refl, sym, ap, ◌∙◌, subst, arith, inl, inr, Option, Some, None, is_some, is_none}
-use Rattle.std.proofs.lemmas.Bool.{cases_lt, cases_Bool, eqb-true, false≢true}
-use Rattle.std.proofs.lemmas.List.{length-drop, length-take-le, take-append-drop}
-use Rattle.scene_lexer.specs.Spellings.{escape, escape_tail, text_rest, opens_comment, closes_comment, depth_after, mark_tail, comment_rest, ends_there, is_empty}
+use Rattle.std.proofs.Common.{◌≡◌, ℕ, zero, suc, ◌+◌, ◌-◌, ◌<◌, ◌≤◌, Bool, true, false, cond, ◌||◌, ◌==◌, List, [], ◌∷◌, ◌++◌, length, take, drop, refl, sym, ap, ◌∙◌, subst, arith, inl, inr, Option, Some, None, is_none}
+use Rattle.std.proofs.lemmas.Bool.{cases_Bool}
+use Rattle.std.proofs.lemmas.List.{length-drop}
+use Rattle.scene_lexer.specs.Spellings.{escape, escape_tail, text_rest, opens_comment, closes_comment, depth_after, mark_tail, comment_rest, ends_there}
 use Rattle.scene_lexer.proofs.NumberLength.{and-false, not_empty-take, take-empty}
 
 none-some : {t : List ℕ} → (let none : Option (List ℕ) = None in none) ≡ Some t → ⊥
 none-some h = cc
-
-drop-suc : (n b : ℕ) (s : List ℕ) → length (drop (suc n) (b ∷ s)) ≡ length s - n
-drop-suc n b s = length-drop n s
 
 -- texts
 pub text_rest-less : (k : ℕ) (s t : List ℕ) → text_rest k s ≡ Some t → length t < length s
@@ -185,6 +182,3 @@ scan-above scan is s n j below within h =
     ap scan (take-split n j s (omega arith)) ∙ is.more (take n s) (take (j - n) (drop n s)) [] (is.front s n (omega arith) h) in
     ap (λ o. ends_there o || is_none o) e
     ∙ ap (λ v. v || false) (not_empty-take (j - n) (drop n s) (omega arith) (omega (arith, length-drop n s)))
-
-pub scan-open : (scan : List ℕ → Option (List ℕ)) (s : List ℕ) → scan s ≡ None → ends_or_open scan s ≡ true
-scan-open scan s h = ap (λ o. ends_there o || is_none o) h

@@ -1,18 +1,18 @@
 -- Signs of one and of two bytes at the start of a text, and bytes that begin nothing.
-use Rattle.std.proofs.Common.{◌≡◌, ℕ, zero, suc, ◌+◌, ◌-◌, ◌<◌, ◌≤◌, Bool, true, false, cond, ◌&&◌, ◌||◌, ◌==◌, List, [], ◌∷◌, length, take, drop, refl, sym, ap, ◌∙◌, subst, arith, inl, inr, Result, Ok, Err, slice_index, Option, Some, None, is_some, unwrap_or, eqb}
-use Rattle.std.proofs.lemmas.Bool.{false≢true, cases_lt, cases_Bool, eqb-true, eq-eqb}
-use Rattle.scene_lexer.specs.Bytes.{is_white, is_digit, is_letter, is_word}
+use Rattle.std.proofs.Common.{◌≡◌, ℕ, zero, suc, ◌+◌, ◌<◌, ◌≤◌, Bool, true, false, cond, ◌||◌, ◌==◌, List, [], ◌∷◌, length, take, refl, sym, ap, ◌∙◌, subst, arith, inl, inr, Result, Ok, Err, slice_index, Some, None, is_some, unwrap_or}
+use Rattle.std.proofs.lemmas.Bool.{false≢true, cases_Bool, eqb-true}
+use Rattle.scene_lexer.specs.Bytes.{is_white, is_digit, is_letter}
 use Rattle.scene_lexer.specs.Spellings.{longest, is_sign_byte, is_white_space, is_line_comment, is_block_comment, is_open_comment, is_gap, is_sign, is_number, is_piece, digit_count, two_byte_sign, opens_comment, opens_line_comment}
-use Rattle.scene_lexer.specs.Tokens.{kind_of, piece_tokens, front_of, sign_code}
+use Rattle.scene_lexer.specs.Tokens.{piece_tokens, front_of}
 use Rattle.scene_lexer.specs.Steps.{IsFound, line_feeds, two_byte_sign_of}
 use Rattle.scene_lexer.specs.declared.token.Place.{Place}
 use Rattle.scene_lexer.specs.declared.token.Kind.{Kind}
 use Rattle.scene_lexer.specs.declared.token.Kind.TheVariants.{Sign}
 use Rattle.scene_lexer.specs.declared.token.LexFault.{LexFault}
 use Rattle.scene_lexer.specs.declared.token.LexFault.TheVariants.{BadByte}
-use Rattle.scene_lexer.proofs.LongestLemmas.{longest-above, longest-none, longest-is}
-use Rattle.scene_lexer.proofs.NumberLength.{number_ends, and_left, and-false}
-use Rattle.scene_lexer.proofs.PieceLemmas.{gap-false, piece-dot, piece-slash, piece-sign, longest-sign, longest-two, word-false, text-false, sign-false, two-first, two-none, slash-lone}
+use Rattle.scene_lexer.proofs.LongestLemmas.{longest-above, longest-none}
+use Rattle.scene_lexer.proofs.NumberLength.{number_ends, and-false}
+use Rattle.scene_lexer.proofs.PieceLemmas.{gap-false, piece-dot, piece-slash, piece-sign, longest-sign, longest-two, word-false, text-false, sign-false, two-first, slash-lone}
 use Rattle.scene_lexer.proofs.TokensLemmas.{feeds-cons, kind-sign, kind-bad}
 use Rattle.scene_lexer.proofs.FoundLemmas.{found-token, fault-front}
 

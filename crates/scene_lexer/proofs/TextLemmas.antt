@@ -1,9 +1,8 @@
 -- Texts at the start of a text.
-use Rattle.std.proofs.Common.{◌≡◌, ℕ, zero, suc, ◌+◌, ◌-◌, ◌<◌, ◌≤◌, Bool, true, false, cond, ◌&&◌, ◌||◌, ◌==◌, List, [], ◌∷◌, ◌++◌, length, take, drop, refl, sym, ap, ◌∙◌, subst, arith, inl, inr, Result, Ok, Err, slice_index, get_or, Option, Some, None, is_some, is_none, unwrap_or, if◌then◌else◌}
-use Rattle.std.proofs.lemmas.Bool.{false≢true, cases_lt, cases_Bool, eqb-true, eq-eqb}
+use Rattle.std.proofs.Common.{◌≡◌, ℕ, zero, suc, ◌+◌, ◌-◌, ◌<◌, ◌≤◌, Bool, true, false, cond, ◌||◌, ◌==◌, List, [], ◌∷◌, ◌++◌, length, take, drop, refl, sym, ap, ◌∙◌, arith, inl, inr, Result, Ok, Err, slice_index, get_or, Option, Some, None, is_some, is_none, unwrap_or, if◌then◌else◌}
+use Rattle.std.proofs.lemmas.Bool.{cases_Bool, eqb-true}
 use Rattle.std.proofs.lemmas.List.{length-drop, drop-drop, drop-take, take-take, take_all, drop_more, drop_all, length-take-le, append_assoc, append-nil}
-use Rattle.scene_lexer.specs.Bytes.{is_white, is_letter, is_word}
-use Rattle.scene_lexer.specs.Spellings.{longest, is_gap, is_text, is_open_text, is_sign, is_piece, escape, escape_of, escape_tail, text_rest, ends_there}
+use Rattle.scene_lexer.specs.Spellings.{longest, is_gap, is_text, is_open_text, is_piece, escape, escape_of, escape_tail, text_rest, ends_there}
 use Rattle.scene_lexer.specs.Tokens.{kind_of, piece_tokens, front_of, unescaped, within_quotes}
 use Rattle.scene_lexer.specs.Steps.{IsFound, line_feeds}
 use Rattle.scene_lexer.specs.declared.token.Place.{Place}
@@ -13,7 +12,7 @@ use Rattle.scene_lexer.specs.declared.token.LexFault.{LexFault}
 use Rattle.scene_lexer.specs.declared.token.LexFault.TheVariants.{OpenString}
 use Rattle.scene_lexer.proofs.LongestLemmas.{longest-is}
 use Rattle.scene_lexer.proofs.PieceLemmas.{piece-text, gap-false, word-false, number-false, sign-false, open_comment-false}
-use Rattle.scene_lexer.proofs.ScanLemmas.{text_scan, scan-at, scan-above, ends_or_open, escape_tail-one, escape_tail-same}
+use Rattle.scene_lexer.proofs.ScanLemmas.{text_scan, scan-at, scan-above, ends_or_open, escape_tail-one}
 use Rattle.scene_lexer.proofs.TokensLemmas.{feeds-cons, kind-text, kind-open_text}
 use Rattle.scene_lexer.proofs.FoundLemmas.{found-token, fault-front, feeds-take-add}
 

@@ -5,12 +5,11 @@ use Rattle.std.proofs.lemmas.Bool.{false≢true, cases_Bool, eqb-true}
 use Rattle.std.proofs.lemmas.List.{append_assoc, length-take-le}
 use Rattle.std.proofs.lemmas.List.Sums.{sum_by-cons}
 use Rattle.scene_lexer.specs.Bytes.{is_word}
-use Rattle.scene_lexer.specs.Spellings.{longest, is_gap, is_piece, is_sign, is_number, is_number_end, is_fraction, is_text, is_open_text, is_open_comment}
-use Rattle.scene_lexer.specs.Tokens.{tokens_from, tokens_of, piece_tokens, token_list, kind_of, number_of, word_of, sign_code, unescaped, within_quotes, front_of, joined, line_after}
+use Rattle.scene_lexer.specs.Spellings.{is_sign, is_number, is_number_end, is_fraction, is_text, is_open_text, is_open_comment}
+use Rattle.scene_lexer.specs.Tokens.{tokens_from, piece_tokens, kind_of, number_of, word_of, sign_code, unescaped, within_quotes, front_of, joined, line_after}
 use Rattle.scene_lexer.specs.Steps.{line_feeds}
 use Rattle.scene_lexer.specs.declared.token.Place.{Place}
 use Rattle.scene_lexer.specs.declared.token.Token.{Token}
-use Rattle.scene_lexer.specs.declared.token.Kind.{Kind}
 use Rattle.scene_lexer.specs.declared.token.Kind.TheVariants.{Word, Text, Sign}
 use Rattle.scene_lexer.specs.declared.token.LexFault.{LexFault}
 use Rattle.scene_lexer.specs.declared.token.LexFault.TheVariants.{BadByte, OpenComment, OpenString, LongName}

@@ -1,5 +1,5 @@
 -- How gaps and tokens are spelled. (Reference manual, identifiers, numbers, strings and comments)
-use Rattle.std.specs.Prelude.{ℕ, zero, suc, ◌+◌, ◌-◌, Bool, true, false, not, ◌&&◌, ◌||◌, ◌==◌, nat_lt, nat_eq, List, [], ◌∷◌, length, take, drop, codes, if◌then◌else◌, Option, Some, None, is_some, is_none}
+use Rattle.std.specs.Prelude.{ℕ, zero, suc, ◌+◌, Bool, true, false, not, ◌&&◌, ◌||◌, ◌==◌, nat_lt, nat_eq, List, [], ◌∷◌, take, drop, codes, if◌then◌else◌, Option, Some, None, is_some, is_none}
 use Rattle.std.specs.List.{prefix_len, list_any, list_all, starts_with}
 use Rattle.scene_lexer.specs.Bytes.{is_white, is_digit, is_word}
 use Rattle.scene_lexer.specs.declared.sign.TheConstants.{EQUAL, LESS, GREATER, NOT, AT_MOST, AT_LEAST, NOT_EQUAL}

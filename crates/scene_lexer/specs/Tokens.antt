@@ -1,10 +1,9 @@
 -- The tokens of a scene text, each with its place, or the first fault.
-use Rattle.std.specs.Prelude.{ℕ, zero, suc, ◌+◌, ◌-◌, ◌*◌, ◌^◌, true, false, ◌==◌, nat_lt, nat_le, nat_eq, List, [], ◌∷◌, ◌++◌, length, take, drop, ℤ, pos, fold, true, if◌then◌else◌, Result, Ok, Err, unsigned_abs, count_by, All, AllPairs, ◌≡◌, ◌<◌, ◌≤◌, ◌||◌, Option, Some, None, unwrap_or, Bool}
+use Rattle.std.specs.Prelude.{ℕ, zero, suc, ◌+◌, ◌-◌, ◌*◌, ◌^◌, true, false, ◌==◌, nat_lt, nat_le, nat_eq, List, [], ◌∷◌, ◌++◌, length, take, drop, ℤ, pos, fold, true, if◌then◌else◌, Result, Ok, Err, unsigned_abs, All, AllPairs, ◌<◌, ◌≤◌, ◌||◌, Option, Some, None, unwrap_or, Bool}
 use Rattle.std.specs.List.{starts_with}
-use Rattle.fix_math.specs.Numbers.{rnd, IsInRange}
+use Rattle.fix_math.specs.Numbers.{rnd}
 use Rattle.scene_lexer.specs.Bytes.{is_word}
-use Rattle.scene_lexer.specs.Spellings.{digit_count, is_number, is_sign, is_gap, is_piece, longest, after_digits, fraction_length, sign_length, two_byte_sign, escape, escape_tail, comment_rest, is_text, is_open_comment, is_open_text}
-use Rattle.scene_lexer.specs.declared.found.Found.{Found}
+use Rattle.scene_lexer.specs.Spellings.{digit_count, is_number, is_sign, is_gap, is_piece, longest, after_digits, fraction_length, sign_length, two_byte_sign, escape, escape_tail, is_text, is_open_comment, is_open_text}
 use Rattle.scene_lexer.specs.declared.token.Place.{Place}
 use Rattle.scene_lexer.specs.declared.token.Token.{Token}
 use Rattle.scene_lexer.specs.declared.token.Kind.{Kind}

@@ -1,16 +1,18 @@
 -- Each exit and each result of the levels is a case of its reading.
-use Rattle.std.proofs.Common.{◌≡◌, ◌<◌, ◌≤◌, ◌+◌, ◌-◌, [], length, suc, nat_eq, true, false, Some, None, Ok, Err, refl, sym, ap, ◌∙◌, subst, arith, rules}
+use Rattle.std.proofs.Common.{◌≡◌, ◌<◌, ◌≤◌, ◌+◌, ◌-◌, [], length, drop, suc, nat_eq, true, false, Some, None, Ok, Err, refl, sym, ap, ◌∙◌, subst, arith, rules}
 use Rattle.std.proofs.lemmas.Result.{IfOk-weaker, IfErr-weaker}
 use Rattle.scene_expr.specs.Calls.{called}
 use Rattle.scene_expr.specs.Operators.{chosen}
 use Rattle.scene_expr.specs.Colours.{grouped, with_channel}
+use Rattle.scene_expr.specs.declared.heads.Head.{Head}
 use Rattle.scene_expr.specs.declared.heads.Opener.{Opener}
 use Rattle.scene_expr.specs.Then.{IsThen}
 use Rattle.scene_expr.specs.Grammar.{angle_arity, goes_on, inner, inner_of, made, marked, tier_operator, IsRow, IsChannels}
 use Rattle.scene_expr.specs.Grammar.Inner.{Choice, Sum}
 use Rattle.scene_expr.specs.Heads.{sign_at, place_at, channel_at}
 use Rattle.scene_expr.specs.Steps.{read}
-use Rattle.scene_expr.proofs.Levels.{exit, choice_inside, sum_inside, factor_inside, too_deep, tiers_of, Behind, whole, behind_alone, right_fault, refused, took, operator_within, sign_within, unasked, asked, branched, longer, counted, row_least, row_most}
+use Rattle.scene_expr.proofs.Levels.{exit, choice_inside, sum_inside, factor_inside, too_deep, tiers_of, Behind, whole, behind_alone, right_fault, refused, took, head_within, operator_within, sign_within, unasked, asked, branched, longer, counted, row_least, row_most}
+use Rattle.scene_expr.proofs.Needs.{later, text_needs, call_needs, commas_need, commas_later, comma_here, goes_comma}
 use Rattle.scene_expr.proofs.reader.+levels.Goals as goal
 
 pub marked_at-returns-in_err-next-clause-fault : goal.marked_at-returns-in_err-next-clause-fault
@@ -109,12 +111,12 @@ channels-returns-in_err-end-clause-fault t c =
 pub channels-returns-in-Err-clause-fault : goal.channels-returns-in-Err-clause-fault
 channels-returns-in-Err-clause-fault t c =
     let word : channel_at c.args.tokens.now c.numbers.next ≡ Some c.in-Some.channel = grind arith in
-    λ some. rw (c.at.ensures, c.place_at.ensures) (c.numbers.invariant.0 _ (IsChannels.refused _ _ _ _ _ word (sum_inside _ _ _ _ _ c.in_ok-end.ensures.found) (ap (with_channel c.numbers.colour c.in-Some.channel) (sym c.take.ensures.value) ∙ sym c.in-Err.ensures)))
+    λ some. rw (c.at.ensures.value, c.place_at.ensures) (c.numbers.invariant.0 _ (IsChannels.refused _ _ _ _ _ word (sum_inside _ _ _ _ _ c.in_ok-end.ensures.found) (ap (with_channel c.numbers.colour c.in-Some.channel) (sym c.take.ensures.value) ∙ sym c.in-Err.ensures.value)))
 
 pub channels-numbers-preserved : goal.channels-numbers-preserved
 channels-numbers-preserved t c =
     let word : channel_at c.args.tokens.now c.numbers.next ≡ Some c.in-Some.channel = grind arith in
-    ((λ r rest. c.numbers.invariant.0 r (IsChannels.further _ _ _ _ _ r word (sum_inside _ _ _ _ _ c.in_ok-end.ensures.found) (ap (with_channel c.numbers.colour c.in-Some.channel) (sym c.take.ensures.value) ∙ sym c.in-Ok.ensures) rest)), omega (arith, c.numbers.invariant.1, c.in_ok-end.ensures.within.0), c.in_ok-end.ensures.within.1)
+    ((λ r rest. c.numbers.invariant.0 r (IsChannels.further _ _ _ _ _ r word (sum_inside _ _ _ _ _ c.in_ok-end.ensures.found) (ap (with_channel c.numbers.colour c.in-Some.channel) (sym c.take.ensures.value) ∙ sym c.in-Ok.ensures.value) rest)), omega (arith, c.numbers.invariant.1, c.in_ok-end.ensures.within.0), c.in_ok-end.ensures.within.1)
 
 pub channels-returns-clause-found : goal.channels-returns-clause-found
 channels-returns-clause-found t c =
@@ -252,11 +254,140 @@ row-parts-preserved-else-not-branch t c =
     let more : c.in_ok-goes_on.field-0 ≡ true = grind arith in
     let same : length c.as_slice-count.result.now ≡ length c.parts.values.items + 1 = ap length (c.as_slice-count.ensures ∙ c.in_ok-push.ensures.ok) ∙ longer c.parts.values.items c.part.new.value in
     let goes = counted c.args.arity (length c.as_slice-count.result.now) (length c.parts.values.items + 1) c.args.tokens.now c.in_ok-end.end (Ok true) same (subst (λ more. Ok more ≡ goes_on c.args.arity (length c.as_slice-count.result.now) c.args.tokens.now c.in_ok-end.end) more c.in_ok-goes_on.ensures.value) in
-    ((λ r rest. c.parts.invariant.0 r (IsRow.further _ _ _ r c.in_ok-end.ensures.found goes (subst (λ values. IsRow c.args.tokens.now (inner c.args.tokens.now c.args.set.now (suc c.args.depths) (inner_of c.args.level)) c.args.arity values (c.in_ok-end.end + 1) r) c.in_ok-push.ensures.ok rest))), omega (arith, c.parts.invariant.1, c.in_ok-end.ensures.within.0), omega (arith, c.in_ok-goes_on.ensures.within more))
+    ((λ r rest. c.parts.invariant.0 r (IsRow.further _ _ _ r c.in_ok-end.ensures.found goes (subst (λ values. IsRow c.args.tokens.now (inner c.args.tokens.now c.args.set.now (suc c.args.depths) (inner_of c.args.level)) c.args.arity values (c.in_ok-end.end + 1) r) c.in_ok-push.ensures.ok rest))), omega (arith, c.parts.invariant.1, c.in_ok-end.ensures.within.0), omega (arith, c.in_ok-goes_on.ensures.within more), rw (c.in_ok-push.ensures.ok, longer c.parts.values.items c.part.new.value) (omega (arith, c.parts.invariant.3, commas_later c.args.tokens.now c.parts.next c.in_ok-end.end c.in_ok-end.ensures.within.0, comma_here c.args.tokens.now c.in_ok-end.end (goes_comma c.args.arity (length c.parts.values.items + 1) c.args.tokens.now c.in_ok-end.end goes))), c.in_ok-push.ensures.room)
 
 pub row-parts-preserved : goal.row-parts-preserved
 row-parts-preserved t c =
     let more : c.in_ok-goes_on.field-0 ≡ true = grind arith in
     let same : length c.as_slice-count.result.now ≡ length c.parts.values.items + 1 = ap length (c.as_slice-count.ensures ∙ c.in_ok-push.ensures.ok) ∙ longer c.parts.values.items c.part.new.value in
     let goes = counted c.args.arity (length c.as_slice-count.result.now) (length c.parts.values.items + 1) c.args.tokens.now c.in_ok-end.end (Ok true) same (subst (λ more. Ok more ≡ goes_on c.args.arity (length c.as_slice-count.result.now) c.args.tokens.now c.in_ok-end.end) more c.in_ok-goes_on.ensures.value) in
-    ((λ r rest. c.parts.invariant.0 r (IsRow.further _ _ _ r c.in_ok-end.ensures.found goes (subst (λ values. IsRow c.args.tokens.now (inner c.args.tokens.now c.args.set.now (suc c.args.depths) (inner_of c.args.level)) c.args.arity values (c.in_ok-end.end + 1) r) c.in_ok-push.ensures.ok rest))), omega (arith, c.parts.invariant.1, c.in_ok-end.ensures.within.0), omega (arith, c.in_ok-goes_on.ensures.within more))
+    ((λ r rest. c.parts.invariant.0 r (IsRow.further _ _ _ r c.in_ok-end.ensures.found goes (subst (λ values. IsRow c.args.tokens.now (inner c.args.tokens.now c.args.set.now (suc c.args.depths) (inner_of c.args.level)) c.args.arity values (c.in_ok-end.end + 1) r) c.in_ok-push.ensures.ok rest))), omega (arith, c.parts.invariant.1, c.in_ok-end.ensures.within.0), omega (arith, c.in_ok-goes_on.ensures.within more), rw (c.in_ok-push.ensures.ok, longer c.parts.values.items c.part.new.value) (omega (arith, c.parts.invariant.3, commas_later c.args.tokens.now c.parts.next c.in_ok-end.end c.in_ok-end.ensures.within.0, comma_here c.args.tokens.now c.in_ok-end.end (goes_comma c.args.arity (length c.parts.values.items + 1) c.args.tokens.now c.in_ok-end.end goes))), c.in_ok-push.ensures.room)
+
+pub marked_at-returns-in_err-next-clause-memory : goal.marked_at-returns-in_err-next-clause-memory
+marked_at-returns-in_err-next-clause-memory t c =
+    exit _ _ _ c.from_residual.ensures.1 (λ want. later c.args.tokens.now c.args.at (c.args.at + 1) (omega arith) (c.in_err-next.ensures.memory want))
+
+pub marked_at-returns-in_err-mark_in-clause-memory : goal.marked_at-returns-in_err-mark_in-clause-memory
+marked_at-returns-in_err-mark_in-clause-memory t c =
+    exit _ _ _ c.from_residual-in_err-mark_in.ensures.1 (λ want. absurd (c.in_err-mark_in.ensures.memory want))
+
+pub bracketed-returns-in_err-inside-clause-memory : goal.bracketed-returns-in_err-inside-clause-memory
+bracketed-returns-in_err-inside-clause-memory t c =
+    exit _ _ _ c.from_residual.ensures.1 (λ want. later c.args.tokens.now c.args.at (c.args.at + 1) (omega arith) (c.in_err-inside.ensures.memory want))
+
+pub bracketed-returns-in_err-next-clause-memory : goal.bracketed-returns-in_err-next-clause-memory
+bracketed-returns-in_err-next-clause-memory t c =
+    exit _ _ _ c.from_residual-in_err-next.ensures.1 (λ want. absurd (c.in_err-next.ensures.memory want))
+
+pub branched-returns-in_err-end-clause-memory : goal.branched-returns-in_err-end-clause-memory
+branched-returns-in_err-end-clause-memory t c =
+    exit _ _ _ c.from_residual.ensures.1 (λ want. later c.args.tokens.now c.args.at (c.args.at + 1) (omega arith) (c.in_err-end.ensures.memory want))
+
+pub branched-returns-in_err-start-clause-memory : goal.branched-returns-in_err-start-clause-memory
+branched-returns-in_err-start-clause-memory t c =
+    exit _ _ _ c.from_residual-in_err-start.ensures.1 (λ want. absurd (c.in_err-start.ensures.memory want))
+
+pub branched-returns-in_err-next-clause-memory : goal.branched-returns-in_err-next-clause-memory
+branched-returns-in_err-next-clause-memory t c =
+    exit _ _ _ c.from_residual-in_err-next.ensures.1 (λ want. later c.args.tokens.now c.args.at c.in_ok-start.start (omega (arith, c.in_ok-start.ensures.behind, c.in_ok-end.ensures.within.0)) (c.in_err-next.ensures.memory want))
+
+pub branched-returns-in_err-choose-clause-memory : goal.branched-returns-in_err-choose-clause-memory
+branched-returns-in_err-choose-clause-memory t c =
+    exit _ _ _ c.from_residual-in_err-choose.ensures.1 (λ want. absurd (c.in_err-choose.ensures.memory want))
+
+pub grouped_at-returns-in_err-end-clause-memory : goal.grouped_at-returns-in_err-end-clause-memory
+grouped_at-returns-in_err-end-clause-memory t c =
+    exit _ _ _ c.from_residual.ensures.1 (λ want. later c.args.tokens.now c.args.at (c.args.at + 1) (omega arith) (c.in_err-end.ensures.memory want))
+
+pub grouped_at-returns-in_err-next-clause-memory : goal.grouped_at-returns-in_err-next-clause-memory
+grouped_at-returns-in_err-next-clause-memory t c =
+    exit _ _ _ c.from_residual-in_err-next.ensures.1 (λ want. absurd (c.in_err-next.ensures.memory want))
+
+pub grouped_at-returns-in_err-group_in-clause-memory : goal.grouped_at-returns-in_err-group_in-clause-memory
+grouped_at-returns-in_err-group_in-clause-memory t c =
+    exit _ _ _ c.from_residual-in_err-group_in.ensures.1 (λ want. absurd (c.in_err-group_in.ensures.memory want))
+
+pub called_at-returns-in_err-start-clause-memory : goal.called_at-returns-in_err-start-clause-memory
+called_at-returns-in_err-start-clause-memory t c =
+    exit _ _ _ c.from_residual.ensures.1 (λ want. absurd (c.in_err-start.ensures.memory want))
+
+pub called_at-returns-in_err-end-clause-memory : goal.called_at-returns-in_err-end-clause-memory
+called_at-returns-in_err-end-clause-memory t c =
+    exit _ _ _ c.from_residual-in_err-end.ensures.1 (λ want. later c.args.tokens.now c.args.at c.in_ok-start.start (omega (arith, c.in_ok-start.ensures.behind)) (c.in_err-end.ensures.memory want))
+
+pub called_at-returns-in_err-next-clause-memory : goal.called_at-returns-in_err-next-clause-memory
+called_at-returns-in_err-next-clause-memory t c =
+    exit _ _ _ c.from_residual-in_err-next.ensures.1 (λ want. absurd (c.in_err-next.ensures.memory want))
+
+pub called_at-returns-in_err-call_in-clause-memory : goal.called_at-returns-in_err-call_in-clause-memory
+called_at-returns-in_err-call_in-clause-memory t c =
+    exit _ _ _ c.from_residual-in_err-call_in.ensures.1 (λ want. call_needs c.args.call c.args.tokens.now c.args.at c.requires.head (c.in_err-call_in.ensures.memory want))
+
+pub channels-returns-in_err-end-clause-memory : goal.channels-returns-in_err-end-clause-memory
+channels-returns-in_err-end-clause-memory t c =
+    exit _ _ _ c.from_residual.ensures.1 (λ want. later c.args.tokens.now c.args.at (c.numbers.next + 1) (omega (arith, c.numbers.invariant.1)) (c.in_err-end.ensures.memory want))
+
+pub channels-returns-in-Err-clause-memory : goal.channels-returns-in-Err-clause-memory
+channels-returns-in-Err-clause-memory t c =
+    λ want. absurd (c.in-Err.ensures.memory (c.at.ensures.memory want))
+
+pub row-returns-in_err-end-clause-memory : goal.row-returns-in_err-end-clause-memory
+row-returns-in_err-end-clause-memory t c =
+    exit _ _ _ c.from_residual.ensures.1 (λ want. later c.args.tokens.now c.args.at c.parts.next c.parts.invariant.1 (c.in_err-end.ensures.memory want))
+
+pub row-returns-in_err-push-clause-memory : goal.row-returns-in_err-push-clause-memory
+row-returns-in_err-push-clause-memory t c =
+    exit _ _ _ c.from_residual-in_err-push.ensures.1 (λ want. commas_need (drop c.args.at c.args.tokens.now) (omega (arith, c.in_err-push.ensures.memory, c.parts.invariant.3)))
+
+pub row-returns-in_err-goes_on-clause-memory : goal.row-returns-in_err-goes_on-clause-memory
+row-returns-in_err-goes_on-clause-memory t c =
+    exit _ _ _ c.from_residual-in_err-goes_on.ensures.1 (λ want. absurd (c.in_err-goes_on.ensures.memory want))
+
+pub bare-returns-in_err-literal-in-Text-clause-memory : goal.bare-returns-in_err-literal-in-Text-clause-memory
+bare-returns-in_err-literal-in-Text-clause-memory t c =
+    exit _ _ _ c.from_residual.ensures.1 (λ want. text_needs c.args.tokens.now c.args.at (sym c.head_at.ensures ∙ c.in-Text.is))
+
+pub bare-opened-requires : goal.bare-opened-requires
+bare-opened-requires t c =
+    let head = sym c.head_at.ensures ∙ c.in-Opener.is in
+    let inside = head_within (Head.Opener c.in-Opener.opener) c.args.tokens.now c.args.at head (λ e. cc e) in
+    search rules
+
+pub bare-returns-in-Number-clause-within : goal.bare-returns-in-Number-clause-within
+bare-returns-in-Number-clause-within t c =
+    let inside = head_within (Head.Number c.in-Number.number) c.args.tokens.now c.args.at (sym c.head_at.ensures ∙ c.in-Number.is) (λ e. cc e) in
+    (omega arith, omega (arith, inside))
+
+pub bare-returns-in_ok-literal-in-Text-clause-within : goal.bare-returns-in_ok-literal-in-Text-clause-within
+bare-returns-in_ok-literal-in-Text-clause-within t c =
+    let inside = head_within Head.Text c.args.tokens.now c.args.at (sym c.head_at.ensures ∙ c.in-Text.is) (λ e. cc e) in
+    (omega arith, omega (arith, inside))
+
+pub bare-returns-in-Constant-clause-within : goal.bare-returns-in-Constant-clause-within
+bare-returns-in-Constant-clause-within t c =
+    let inside = head_within (Head.Constant c.in-Constant.word) c.args.tokens.now c.args.at (sym c.head_at.ensures ∙ c.in-Constant.is) (λ e. cc e) in
+    (omega arith, omega (arith, inside))
+
+pub factor-returns-in_err-end-clause-memory : goal.factor-returns-in_err-end-clause-memory
+factor-returns-in_err-end-clause-memory t c =
+    exit _ _ _ c.from_residual.ensures.1 (λ want. c.in_err-end.ensures.memory want)
+
+pub level-returns-in_err-next-clause-memory : goal.level-returns-in_err-next-clause-memory
+level-returns-in_err-next-clause-memory t c =
+    exit _ _ _ c.from_residual.ensures.1 (λ want. c.in_err-next.ensures.memory want)
+
+pub level-returns-in_err-end-in-Some-clause-memory : goal.level-returns-in_err-end-in-Some-clause-memory
+level-returns-in_err-end-in-Some-clause-memory t c =
+    exit _ _ _ c.from_residual-in_err-end-in-Some.ensures.1 (λ want. later c.args.tokens.now c.args.at (c.operators.next + 1) (omega (arith, c.operators.invariant.1)) (c.in_err-end-in-Some.ensures.memory want))
+
+pub level-returns-in_err-operate-in-Some-clause-memory : goal.level-returns-in_err-operate-in-Some-clause-memory
+level-returns-in_err-operate-in-Some-clause-memory t c =
+    exit _ _ _ c.from_residual-in_err-operate-in-Some.ensures.1 (λ want. absurd (c.in_err-operate-in-Some.ensures.memory want))
+
+pub choice-returns-in_err-asked-clause-memory : goal.choice-returns-in_err-asked-clause-memory
+choice-returns-in_err-asked-clause-memory t c =
+    exit _ _ _ c.from_residual.ensures.1 (λ want. c.in_err-asked.ensures.memory want)
+
+pub choice-returns-in_err-next-clause-memory : goal.choice-returns-in_err-next-clause-memory
+choice-returns-in_err-next-clause-memory t c =
+    exit _ _ _ c.from_residual-in_err-next.ensures.1 (λ want. later c.args.tokens.now c.args.at c.in_ok-asked.asked c.in_ok-asked.ensures.within.0 (c.in_err-next.ensures.memory want))

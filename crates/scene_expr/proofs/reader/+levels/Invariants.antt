@@ -1,11 +1,12 @@
 -- Reading ends: a call within the recursion has fewer depths, or a lower level.
-use Rattle.std.proofs.Common.{◌≤◌, ◌-◌, ◌+◌, ◌*◌, suc, length, [], Result}
+use Rattle.std.proofs.Common.{◌≤◌, ◌-◌, ◌+◌, ◌*◌, suc, length, drop, [], Result}
 use Rattle.scene_expr.specs.Colours.{black}
 use Rattle.scene_expr.specs.declared.value.ExprFault.{ExprFault}
 use Rattle.scene_expr.specs.Grammar.{Outcome, Row, inner, inner_of, IsRow, IsChannels}
 use Rattle.scene_expr.specs.Grammar.Inner.{Sum}
 use Rattle.scene_expr.specs.Steps.{read}
 use Rattle.scene_expr.proofs.Levels.{tiers_of, Behind}
+use Rattle.scene_expr.proofs.Needs.{commas}
 use Rattle.scene_expr.proofs.reader.+levels.Given as goal
 
 abbrev pub decreases-bare : goal.decreases-bare
@@ -59,6 +60,7 @@ abbrev pub invariant-row-parts : goal.invariant-row-parts
 invariant-row-parts l =
     ((r : Result Row ExprFault) → IsRow l.tokens (inner l.tokens l.set (suc l.depths) (inner_of l.level)) l.arity l.values.items l.next r → IsRow l.tokens (inner l.tokens l.set (suc l.depths) (inner_of l.level)) l.arity [] l.fn.at r)
     × (l.fn.at ≤ l.next) × (l.next ≤ length l.tokens)
+    × (length l.values.items + commas (drop l.next l.tokens) ≤ commas (drop l.fn.at l.tokens)) × (5 ≤ l.values.capacity)
 
 abbrev pub decreases-row-parts : goal.decreases-row-parts
 decreases-row-parts l = length l.tokens - l.next

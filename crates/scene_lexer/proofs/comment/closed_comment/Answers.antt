@@ -1,5 +1,5 @@
 -- Each turn takes one mark or byte.
-use Rattle.std.proofs.Common.{◌≡◌, ◌≤◌, ◌<◌, length, drop, arith}
+use Rattle.std.proofs.Common.{arith}
 use Rattle.scene_lexer.proofs.CommentLemmas.{comment_start, comment_more, comment_end, comment_out}
 use Rattle.scene_lexer.proofs.comment.closed_comment.Goals as goal
 

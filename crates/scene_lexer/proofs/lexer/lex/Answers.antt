@@ -1,6 +1,6 @@
 -- Each turn of the loop is one white byte, one piece or the first fault.
-use Rattle.std.proofs.Common.{◌≡◌, ◌+◌, ◌≤◌, ◌<◌, length, drop, slice_index, arith, sym, ap, ◌∙◌, refl, subst, List, [], ◌∷◌, ◌++◌, Err, not}
-use Rattle.scene_lexer.specs.Tokens.{piece_tokens, front_of, line_after, tokens_at, Ascend}
+use Rattle.std.proofs.Common.{◌≡◌, ◌+◌, drop, slice_index, arith, sym, ap, ◌∙◌, refl, subst, ◌++◌, Err, not}
+use Rattle.scene_lexer.specs.Tokens.{piece_tokens, front_of, line_after, Ascend}
 use Rattle.scene_lexer.specs.Steps.{IsFound, found_tokens}
 use Rattle.scene_lexer.proofs.TokensLemmas.{place_at}
 use Rattle.scene_lexer.proofs.LexLemmas.{IsRead, start_read, start_within, white_read, found_within, piece_read, fault_read, end_read, ascend_none, ascend_add, ascend_more, line_feed, no_line_feed, ok-then, err-then, token_read, text_piece, kind_piece}

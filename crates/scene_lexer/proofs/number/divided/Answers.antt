@@ -1,5 +1,5 @@
 -- A power of ten up to the 30th fits.
-use Rattle.std.proofs.Common.{◌≤◌, ◌^◌, arith}
+use Rattle.std.proofs.Common.{arith}
 use Rattle.scene_lexer.proofs.NumberLemmas.{ten_pow-le, ten_pow-pos}
 use Rattle.scene_lexer.proofs.number.divided.Goals as goal
 

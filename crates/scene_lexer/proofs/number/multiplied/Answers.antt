@@ -1,6 +1,6 @@
 -- A product that is too large.
-use Rattle.std.proofs.Common.{◌≤◌, ◌<◌, ◌^◌, ◌*◌, arith}
-use Rattle.scene_lexer.proofs.NumberLemmas.{up_large, units_large, up_fits}
+use Rattle.std.proofs.Common.{arith}
+use Rattle.scene_lexer.proofs.NumberLemmas.{up_large, units_large}
 use Rattle.scene_lexer.proofs.number.multiplied.Goals as goal
 use Rattle.scene_lexer.proofs.number.multiplied.Goals.{then-up-gt9-via-then-up-gt9, then-up-gt9-via-else-up-gt9+then-units}
 

@@ -1,7 +1,6 @@
 -- The parts of the longest number, or none.
-use Rattle.std.proofs.Common.{◌≡◌, ◌+◌, ◌<◌, drop, arith, sym, ap, ◌∙◌}
-use Rattle.scene_lexer.specs.Spellings.{digit_count, after_digits, fraction_length}
-use Rattle.scene_lexer.specs.Steps.{exponent_length}
+use Rattle.std.proofs.Common.{drop, arith, sym, ap}
+use Rattle.scene_lexer.specs.Spellings.{fraction_length}
 use Rattle.scene_lexer.proofs.NumberLength.{longest-no_digits, number_parts-are}
 use Rattle.scene_lexer.proofs.number.number_length.Goals as goal
 

@@ -1,6 +1,6 @@
 -- What each way out means, and the room for the digits.
-use Rattle.std.proofs.Common.{◌≡◌, ◌+◌, ◌≤◌, ◌<◌, length, arith, ap, ◌∙◌, sym, min}
-use Rattle.scene_lexer.specs.Tokens.{decimal_from, whole_digits, fraction_digits, exponent_part, size_up, size_down}
+use Rattle.std.proofs.Common.{length, arith, ap, ◌∙◌, sym, min}
+use Rattle.scene_lexer.specs.Tokens.{decimal_from, size_up, size_down}
 use Rattle.scene_lexer.proofs.NumberLemmas.{number_of-long, number_of-scalable, number_of-over, room_first, room_second, fraction-is, part-is}
 use Rattle.scene_lexer.proofs.number.number_of.Goals as goal
 

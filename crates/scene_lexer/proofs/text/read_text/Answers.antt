@@ -1,5 +1,5 @@
 -- Each turn takes one byte or one escape.
-use Rattle.std.proofs.Common.{◌≡◌, ◌+◌, ◌≤◌, ◌<◌, length, drop, arith, ap, ◌∙◌, sym, ◌++◌, ◌∷◌, [], cond, not, subst, Some}
+use Rattle.std.proofs.Common.{◌≡◌, ◌+◌, arith, ap, ◌∙◌, sym, ◌++◌, ◌∷◌, [], cond, not, subst, Some}
 use Rattle.scene_lexer.specs.Steps.{IsFound}
 use Rattle.scene_lexer.specs.declared.token.Kind.TheVariants.{Text}
 use Rattle.scene_lexer.proofs.TextLemmas.{text_start, text_more, text_found, text_open}
