@@ -1,5 +1,5 @@
 -- The bytes of a buffer, and what a file over its front reads as.
-use Rattle.std.proofs.Common.{◌≡◌, ◌+◌, ◌<◌, ◌≤◌, ℕ, List, length, take, get_or, max, min, ap, ◌∙◌, arith, length-take}
+use Rattle.std.proofs.Common.{◌≡◌, ◌+◌, ◌<◌, ◌≤◌, ℕ, List, length, take, get_or, max, min, ap, refl, ◌∙◌, arith, length-take}
 use Rattle.std.proofs.lemmas.List.{get_or-take}
 use Rattle.shelf.specs.Disk.{Written, Torn, Cut, Trimmed}
 
@@ -50,3 +50,10 @@ torn_by_write at bytes old new begins w = record {
   below = λ k h i. w.below k h;
   above = λ k h i. w.above k h i;
 }
+
+-- nothing of it may be there
+pub torn_not_at_all : (at count : ℕ) (c : List ℕ) → Torn at count c c
+torn_not_at_all at count c = record { no_shorter = omega arith; no_longer = omega arith; below = λ k a b. refl; above = λ k a b. refl }
+
+pub trimmed_not_at_all : (size : ℕ) (c : List ℕ) → Trimmed size c c
+trimmed_not_at_all size c = record { no_shorter = omega arith; no_longer = omega arith; below = λ k a b d. refl }

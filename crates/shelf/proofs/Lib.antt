@@ -1,3 +1,5 @@
 pub mod FileLemmas
+pub mod ImageLemmas
+pub mod PastLemmas
 pub mod ShelfLemmas
 pub mod Steps

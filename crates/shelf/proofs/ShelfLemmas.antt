@@ -5,8 +5,8 @@ use Rattle.std.specs.Option.{option_and_then, option_map, IsSomeAnd}
 use Rattle.std.proofs.lemmas.Option.{same_Some, none-some, get_or_from_slice_get, slice_get-map, slice_get_past, slice_get_read, slice_get_within}
 use Rattle.std.proofs.lemmas.Bool.{cases_eq, cases_lt, false≢true}
 use Rattle.std.proofs.lemmas.List.{take_all, drop_all}
-use Rattle.shelf.specs.Disk.{Follows, SameContents, SameOthers, SameSlots, Tells, Holds, IsFree, Held, name_at, most_at}
-use Rattle.shelf.specs.Stored.{Stored, slot_of, slots_in, IsAbsent, texts_in, OneEach}
+use Rattle.shelf.specs.Disk.{Follows, Leads, SameContents, SameOthers, SameSlots, Tells, Holds, IsFree, Held, name_at, most_at}
+use Rattle.shelf.specs.Stored.{Stored, slot_of, slots_in, IsAbsent, texts_in, under, OneEach, IsSound, AreSound, IsChange, IsLeft}
 
 pub slice_get-set_same : {A : Type 0} → (xs : List A) (k : ℕ) (y : A) → k < length xs → slice_get (set xs k y) k ≡ Some y
 slice_get-set_same [] k y h = absurd (omega arith)
@@ -67,18 +67,30 @@ one_each old new place was is ch each = λ i j f g fi gj same. elim (cases_eq i 
   ]
 ]
 
-pub follows : (step : List ℕ → List ℕ → Type 0) (old new : List Stored) (place : ℕ) (was is : Stored) → Changes old new place was is → OneEach old
-    → step was.text is.text → Follows step (texts_in old was.name) (texts_in new was.name)
-follows step old new place was is ch each h = λ c given. elim given [
+-- what a slot's file gives, by a step
+pub follows : (P : Stored → List ℕ → Type 0) (step : List ℕ → List ℕ → Type 0) (old new : List Stored) (place : ℕ) (was is : Stored) → Changes old new place was is → OneEach old
+    → Follows step (P was) (P is) → Follows step (under P old was.name) (under P new was.name)
+follows P step old new place was is ch each h = λ c given. elim given [
   | inl r ↦ elim (cases_eq r.place place) [
-    | inl a ↦ let is_file : is ≡ r.file = same_Some is r.file (sym ch.put ∙ sym (ap (λ n. slice_get new n) a) ∙ r.found) in (
-      was.text,
-      inl (record { place = place; file = was; found = ch.found; named = refl; reads = refl }),
-      subst (λ t. step was.text t) (ap (λ x. x.text) is_file ∙ r.reads) h,
-    )
+    | inl a ↦ let is_file : is ≡ r.file = same_Some is r.file (sym ch.put ∙ sym (ap (λ n. slice_get new n) a) ∙ r.found) in
+        let before = h c (subst (λ f. P f c) (sym is_file) r.shows) in (
+          before.0,
+          inl (record { place = place; file = was; found = ch.found; named = refl; shows = before.1 }),
+          before.2,
+        )
     | inr a ↦ absurd (a (each r.place place r.file was (sym (ch.others r.place a) ∙ r.found) ch.found r.named))
   ]
   | inr r ↦ absurd (r.0 place is ch.put ch.named)
+]
+
+-- and all that the step gives is there
+pub leads : (P : Stored → List ℕ → Type 0) (step : List ℕ → List ℕ → Type 0) (old new : List Stored) (place : ℕ) (was is : Stored) → Changes old new place was is → OneEach old
+    → Leads step (P was) (P is) → Leads step (under P old was.name) (under P new was.name)
+leads P step old new place was is ch each h = λ d c given stepped. elim given [
+  | inl r ↦ let e : r.place ≡ place = each r.place place r.file was r.found ch.found r.named in
+      let was_file : was ≡ r.file = same_Some was r.file (sym ch.found ∙ sym (ap (λ n. slice_get old n) e) ∙ r.found) in
+      inl (record { place = place; file = is; found = ch.put; named = ch.named; shows = h d c (subst (λ f. P f d) (sym was_file) r.shows) stepped })
+  | inr r ↦ absurd (r.0 place was ch.found refl)
 ]
 
 pub absent_before : (old new : List Stored) (place : ℕ) (was is : Stored) → Changes old new place was is → (n : List ℕ) → IsAbsent new n → IsAbsent old n
@@ -88,12 +100,12 @@ absent_before old new place was is ch n absent = λ j f fj same. elim (cases_eq 
   | inr a ↦ absent j f (ch.others j a ∙ fj) same
 ]
 
-pub others_stay : (old new : List Stored) (place : ℕ) (was is : Stored) → Changes old new place was is → SameOthers was.name (texts_in old) (texts_in new)
-others_stay old new place was is ch = λ n c apart given. elim given [
+pub others_stay : (P : Stored → List ℕ → Type 0) (old new : List Stored) (place : ℕ) (was is : Stored) → Changes old new place was is → SameOthers was.name (under P old) (under P new)
+others_stay P old new place was is ch = λ n c apart given. elim given [
   | inl r ↦ elim (cases_eq r.place place) [
     | inl a ↦ let is_file : is ≡ r.file = same_Some is r.file (sym ch.put ∙ sym (ap (λ n. slice_get new n) a) ∙ r.found) in
         absurd (apart (sym r.named ∙ sym (ap (λ x. x.name) is_file) ∙ ch.named))
-    | inr a ↦ inl (record { place = r.place; file = r.file; found = sym (ch.others r.place a) ∙ r.found; named = r.named; reads = r.reads })
+    | inr a ↦ inl (record { place = r.place; file = r.file; found = sym (ch.others r.place a) ∙ r.found; named = r.named; shows = r.shows })
   ]
   | inr r ↦ inr (absent_before old new place was is ch n r.0, r.1)
 ]
@@ -102,19 +114,20 @@ pub still_tells : (old new : List Stored) (place : ℕ) (was is : Stored) → Ch
 still_tells old new place was is ch = λ n c given. elim given [
   | inl r ↦ elim (cases_eq r.place place) [
     | inl a ↦ let was_file : was ≡ r.file = same_Some was r.file (sym ch.found ∙ sym (ap (λ n. slice_get old n) a) ∙ r.found) in
-        (is.text, inl (record { place = place; file = is; found = ch.put; named = ch.named ∙ ap (λ x. x.name) was_file ∙ r.named; reads = refl }))
-    | inr a ↦ (c, inl (record { place = r.place; file = r.file; found = ch.others r.place a ∙ r.found; named = r.named; reads = r.reads }))
+        (is.text, inl (record { place = place; file = is; found = ch.put; named = ch.named ∙ ap (λ x. x.name) was_file ∙ r.named; shows = refl }))
+    | inr a ↦ (c, inl (record { place = r.place; file = r.file; found = ch.others r.place a ∙ r.found; named = r.named; shows = r.shows }))
   ]
   | inr r ↦ (c, inr (absent_before new old place is was (back old new place was is ch) n r.0, r.1))
 ]
 
--- a file that changes and reads as before
-pub same_texts : (old new : List Stored) (place : ℕ) (was is : Stored) → Changes old new place was is → is.text ≡ was.text → SameContents (texts_in old) (texts_in new)
-same_texts old new place was is ch same = λ n c given. elim given [
+-- a file that changes and gives no more than before
+pub same_under : (P : Stored → List ℕ → Type 0) (old new : List Stored) (place : ℕ) (was is : Stored) → Changes old new place was is → ((c : List ℕ) → P is c → P was c)
+    → SameContents (under P old) (under P new)
+same_under P old new place was is ch same = λ n c given. elim given [
   | inl r ↦ elim (cases_eq r.place place) [
     | inl a ↦ let is_file : is ≡ r.file = same_Some is r.file (sym ch.put ∙ sym (ap (λ n. slice_get new n) a) ∙ r.found) in
-        inl (record { place = place; file = was; found = ch.found; named = sym ch.named ∙ ap (λ x. x.name) is_file ∙ r.named; reads = sym same ∙ ap (λ x. x.text) is_file ∙ r.reads })
-    | inr a ↦ inl (record { place = r.place; file = r.file; found = sym (ch.others r.place a) ∙ r.found; named = r.named; reads = r.reads })
+        inl (record { place = place; file = was; found = ch.found; named = sym ch.named ∙ ap (λ x. x.name) is_file ∙ r.named; shows = same c (subst (λ f. P f c) (sym is_file) r.shows) })
+    | inr a ↦ inl (record { place = r.place; file = r.file; found = sym (ch.others r.place a) ∙ r.found; named = r.named; shows = r.shows })
   ]
   | inr r ↦ inr (absent_before old new place was is ch n r.0, r.1)
 ]
@@ -194,12 +207,12 @@ one_each_added old new place is ad each = λ i j f g fi gj same. elim (cases_eq 
   ]
 ]
 
-pub same_texts_added : (old new : List Stored) (place : ℕ) (is : Stored) → Adds old new place is → SameContents (texts_in old) (texts_in new)
-same_texts_added old new place is ad = λ n c given. elim given [
+pub same_under_added : (P : Stored → List ℕ → Type 0) (old new : List Stored) (place : ℕ) (is : Stored) → Adds old new place is → ((c : List ℕ) → P is c → c ≡ []) → SameContents (under P old) (under P new)
+same_under_added P old new place is ad empty = λ n c given. elim given [
   | inl r ↦ elim (cases_eq r.place place) [
     | inl a ↦ let is_file : is ≡ r.file = same_Some is r.file (sym ad.put ∙ sym (ap (λ n. slice_get new n) a) ∙ r.found) in
-        inr (subst (λ m. IsAbsent old m) (ap (λ x. x.name) is_file ∙ r.named) ad.unnamed, sym r.reads ∙ sym (ap (λ x. x.text) is_file) ∙ ad.empty)
-    | inr a ↦ inl (record { place = r.place; file = r.file; found = sym (ad.others r.place a) ∙ r.found; named = r.named; reads = r.reads })
+        inr (subst (λ m. IsAbsent old m) (ap (λ x. x.name) is_file ∙ r.named) ad.unnamed, empty c (subst (λ f. P f c) (sym is_file) r.shows))
+    | inr a ↦ inl (record { place = r.place; file = r.file; found = sym (ad.others r.place a) ∙ r.found; named = r.named; shows = r.shows })
   ]
   | inr r ↦ inr (
     λ j f fj same. elim (cases_eq j place) [
@@ -210,14 +223,33 @@ same_texts_added old new place is ad = λ n c given. elim given [
   )
 ]
 
+-- and what was there is there
+pub same_before_added : (P : Stored → List ℕ → Type 0) (old new : List Stored) (place : ℕ) (is : Stored) → Adds old new place is → P is [] → SameContents (under P new) (under P old)
+same_before_added P old new place is ad empty = λ n c given. elim given [
+  | inl r ↦ elim (cases_eq r.place place) [
+    | inl a ↦ absurd (none-some r.file (sym ad.gone ∙ sym (ap (λ n. slice_get old n) a) ∙ r.found))
+    | inr a ↦ inl (record { place = r.place; file = r.file; found = ad.others r.place a ∙ r.found; named = r.named; shows = r.shows })
+  ]
+  | inr r ↦ elim (cases_names is.name n) [
+    | inl a ↦ inl (record { place = place; file = is; found = ad.put; named = a; shows = subst (λ t. P is t) (sym r.1) empty })
+    | inr a ↦ inr (
+      λ j f fj same. elim (cases_eq j place) [
+        | inl b ↦ let f_is : is ≡ f = same_Some is f (sym ad.put ∙ sym (ap (λ n. slice_get new n) b) ∙ fj) in a (ap (λ x. x.name) f_is ∙ same)
+        | inr b ↦ r.0 j f (sym (ad.others j b) ∙ fj) same
+      ],
+      r.1,
+    )
+  ]
+]
+
 pub still_tells_added : (old new : List Stored) (place : ℕ) (is : Stored) → Adds old new place is → Tells (texts_in old) (texts_in new)
 still_tells_added old new place is ad = λ n c given. elim given [
   | inl r ↦ elim (cases_eq r.place place) [
     | inl a ↦ absurd (none-some r.file (sym ad.gone ∙ sym (ap (λ n. slice_get old n) a) ∙ r.found))
-    | inr a ↦ (c, inl (record { place = r.place; file = r.file; found = ad.others r.place a ∙ r.found; named = r.named; reads = r.reads }))
+    | inr a ↦ (c, inl (record { place = r.place; file = r.file; found = ad.others r.place a ∙ r.found; named = r.named; shows = r.shows }))
   ]
   | inr r ↦ elim (cases_names is.name n) [
-    | inl a ↦ (is.text, inl (record { place = place; file = is; found = ad.put; named = a; reads = refl }))
+    | inl a ↦ (is.text, inl (record { place = place; file = is; found = ad.put; named = a; shows = refl }))
     | inr a ↦ (
       c,
       inr (
@@ -264,16 +296,22 @@ one_each_let_go old each = λ i j f g fi gj same.
 absent_let_go : (old : List Stored) (n : List ℕ) → IsAbsent (map let_go old) n → IsAbsent old n
 absent_let_go old n absent = λ j f fj same. absent j (let_go f) (slice_get-map let_go old j ∙ ap (λ o. option_map let_go o) fj) same
 
-pub same_texts_let_go : (old : List Stored) → SameContents (texts_in old) (texts_in (map let_go old))
-same_texts_let_go old = λ n c given. elim given [
+pub same_under_let_go : (P : Stored → List ℕ → Type 0) (old : List Stored) → ((f : Stored) (c : List ℕ) → P (let_go f) c → P f c) → SameContents (under P old) (under P (map let_go old))
+same_under_let_go P old same = λ n c given. elim given [
   | inl r ↦ let a = slice_get-map_some let_go old r.place r.file r.found in
-      inl (record { place = r.place; file = a.0; found = a.1; named = ap (λ x. x.name) a.2 ∙ r.named; reads = ap (λ x. x.text) a.2 ∙ r.reads })
+      inl (record { place = r.place; file = a.0; found = a.1; named = ap (λ x. x.name) a.2 ∙ r.named; shows = same a.0 c (subst (λ f. P f c) (sym a.2) r.shows) })
   | inr r ↦ inr (absent_let_go old n r.0, r.1)
+]
+
+pub same_before_let_go : (P : Stored → List ℕ → Type 0) (old : List Stored) → ((f : Stored) (c : List ℕ) → P f c → P (let_go f) c) → SameContents (under P (map let_go old)) (under P old)
+same_before_let_go P old same = λ n c given. elim given [
+  | inl r ↦ inl (record { place = r.place; file = let_go r.file; found = slice_get-map let_go old r.place ∙ ap (λ o. option_map let_go o) r.found; named = r.named; shows = same r.file c r.shows })
+  | inr r ↦ inr (λ j f fj same_name. let a = slice_get-map_some let_go old j f fj in r.0 j a.0 a.1 (ap (λ x. x.name) a.2 ∙ same_name), r.1)
 ]
 
 pub still_tells_let_go : (old : List Stored) → Tells (texts_in old) (texts_in (map let_go old))
 still_tells_let_go old = λ n c given. elim given [
-  | inl r ↦ (c, inl (record { place = r.place; file = let_go r.file; found = slice_get-map let_go old r.place ∙ ap (λ o. option_map let_go o) r.found; named = r.named; reads = r.reads }))
+  | inl r ↦ (c, inl (record { place = r.place; file = let_go r.file; found = slice_get-map let_go old r.place ∙ ap (λ o. option_map let_go o) r.found; named = r.named; shows = r.shows }))
   | inr r ↦ (c, inr (λ j f fj same. let a = slice_get-map_some let_go old j f fj in r.0 j a.0 a.1 (ap (λ x. x.name) a.2 ∙ same), r.1))
 ]
 
@@ -320,7 +358,7 @@ held_most files slot was held read = let e = slot_at files slot was (held_file f
 pub slot_reads : (files : List Stored) (slot : ℕ) (was : Stored) → IsSome (slots_in files slot) → was ≡ get_or files slot was
     → texts_in files (name_at (slots_in files slot)) was.text
 slot_reads files slot was held read =
-    inl (record { place = slot; file = was; found = held_file files slot was held read; named = sym (held_name files slot was held read); reads = refl })
+    inl (record { place = slot; file = was; found = held_file files slot was held read; named = sym (held_name files slot was held read); shows = refl })
 
 -- and as nothing else
 pub slot_reads_alone : (files : List Stored) (slot : ℕ) (was : Stored) → IsSome (slots_in files slot) → was ≡ get_or files slot was → OneEach files
@@ -331,15 +369,15 @@ slot_reads_alone files slot was held read each c given =
     elim given [
       | inl r ↦ let e : slot ≡ r.place = each slot r.place was r.file found r.found (sym name_is ∙ sym r.named) in
           let was_file : was ≡ r.file = same_Some was r.file (sym found ∙ ap (λ n. slice_get files n) e ∙ r.found) in
-          sym r.reads ∙ sym (ap (λ x. x.text) was_file)
+          sym r.shows ∙ sym (ap (λ x. x.text) was_file)
       | inr r ↦ absurd (r.0 slot was found (sym name_is))
     ]
 
--- a slot's file gets another text
+-- a slot's file gets other bytes, and may leave others
 pub record Rewrites (files : List Stored) (slot : ℕ) (was is : Stored) : Type 0 where
   pub held : IsSome (slots_in files slot)
   pub read : was ≡ get_or files slot was
-  pub kept : is ≡ record was { text = is.text }
+  pub kept : is ≡ record was { text = is.text; left = is.left }
 
 pub rewrites : (files : List Stored) (slot : ℕ) (was is : Stored) → Rewrites files slot was is → Changes files (set files slot is) slot was is
 rewrites files slot was is r = record {
@@ -349,23 +387,96 @@ rewrites files slot was is r = record {
   named = ap (λ x. x.name) r.kept;
 }
 
-pub follows_at : (step : List ℕ → List ℕ → Type 0) (files : List Stored) (slot : ℕ) (was is : Stored) → Rewrites files slot was is → OneEach files → step was.text is.text
-    → Follows step (texts_in files (name_at (slots_in files slot))) (texts_in (set files slot is) (name_at (slots_in files slot)))
-follows_at step files slot was is r each h =
-    subst (λ n. Follows step (texts_in files n) (texts_in (set files slot is) n)) (sym (held_name files slot was r.held r.read))
-    (follows step files (set files slot is) slot was is (rewrites files slot was is r) each h)
+pub follows_at : (P : Stored → List ℕ → Type 0) (step : List ℕ → List ℕ → Type 0) (files : List Stored) (slot : ℕ) (was is : Stored) → Rewrites files slot was is → OneEach files
+    → Follows step (P was) (P is) → Follows step (under P files (name_at (slots_in files slot))) (under P (set files slot is) (name_at (slots_in files slot)))
+follows_at P step files slot was is r each h =
+    subst (λ n. Follows step (under P files n) (under P (set files slot is) n)) (sym (held_name files slot was r.held r.read))
+    (follows P step files (set files slot is) slot was is (rewrites files slot was is r) each h)
 
-pub others_at : (files : List Stored) (slot : ℕ) (was is : Stored) → Rewrites files slot was is
-    → SameOthers (name_at (slots_in files slot)) (texts_in files) (texts_in (set files slot is))
-others_at files slot was is r =
-    subst (λ n. SameOthers n (texts_in files) (texts_in (set files slot is))) (sym (held_name files slot was r.held r.read))
-    (others_stay files (set files slot is) slot was is (rewrites files slot was is r))
+pub leads_at : (P : Stored → List ℕ → Type 0) (step : List ℕ → List ℕ → Type 0) (files : List Stored) (slot : ℕ) (was is : Stored) → Rewrites files slot was is → OneEach files
+    → Leads step (P was) (P is) → Leads step (under P files (name_at (slots_in files slot))) (under P (set files slot is) (name_at (slots_in files slot)))
+leads_at P step files slot was is r each h =
+    subst (λ n. Leads step (under P files n) (under P (set files slot is) n)) (sym (held_name files slot was r.held r.read))
+    (leads P step files (set files slot is) slot was is (rewrites files slot was is r) each h)
+
+pub others_at : (P : Stored → List ℕ → Type 0) (files : List Stored) (slot : ℕ) (was is : Stored) → Rewrites files slot was is
+    → SameOthers (name_at (slots_in files slot)) (under P files) (under P (set files slot is))
+others_at P files slot was is r =
+    subst (λ n. SameOthers n (under P files) (under P (set files slot is))) (sym (held_name files slot was r.held r.read))
+    (others_stay P files (set files slot is) slot was is (rewrites files slot was is r))
+
+pub others_before : (P : Stored → List ℕ → Type 0) (files : List Stored) (slot : ℕ) (was is : Stored) → Rewrites files slot was is
+    → SameOthers (name_at (slots_in files slot)) (under P (set files slot is)) (under P files)
+others_before P files slot was is r =
+    let ch = rewrites files slot was is r in
+    subst (λ n. SameOthers n (under P (set files slot is)) (under P files)) (ch.named ∙ sym (held_name files slot was r.held r.read))
+    (others_stay P (set files slot is) files slot is was (back files (set files slot is) slot was is ch))
+
+pub same_at : (P : Stored → List ℕ → Type 0) (files : List Stored) (slot : ℕ) (was is : Stored) → Rewrites files slot was is → ((c : List ℕ) → P is c → P was c)
+    → SameContents (under P files) (under P (set files slot is))
+same_at P files slot was is r same = same_under P files (set files slot is) slot was is (rewrites files slot was is r) same
+
+pub same_before : (P : Stored → List ℕ → Type 0) (files : List Stored) (slot : ℕ) (was is : Stored) → Rewrites files slot was is → ((c : List ℕ) → P was c → P is c)
+    → SameContents (under P (set files slot is)) (under P files)
+same_before P files slot was is r same =
+    same_under P (set files slot is) files slot is was (back files (set files slot is) slot was is (rewrites files slot was is r)) same
 
 pub tells_at : (files : List Stored) (slot : ℕ) (was is : Stored) → Rewrites files slot was is → Tells (texts_in files) (texts_in (set files slot is))
 tells_at files slot was is r = still_tells files (set files slot is) slot was is (rewrites files slot was is r)
 
 pub slots_at : (files : List Stored) (slot : ℕ) (was is : Stored) → Rewrites files slot was is → SameSlots (slots_in files) (slots_in (set files slot is))
 slots_at files slot was is r = same_slots files (set files slot is) slot was is (rewrites files slot was is r) (ap (λ x. slot_of x) r.kept)
+
+-- ---- soundness
+
+pub sound_change : (old new : List Stored) (place : ℕ) (was is : Stored) → Changes old new place was is → AreSound old → (IsSound was → IsSound is) → AreSound new
+sound_change old new place was is ch sound step = λ k f fk. elim (cases_eq k place) [
+  | inl a ↦ let is_file : is ≡ f = same_Some is f (sym ch.put ∙ sym (ap (λ n. slice_get new n) a) ∙ fk) in subst IsSound is_file (step (sound place was ch.found))
+  | inr a ↦ sound k f (sym (ch.others k a) ∙ fk)
+]
+
+pub sound_at : (files : List Stored) (slot : ℕ) (was is : Stored) → Rewrites files slot was is → AreSound files → (IsSound was → IsSound is) → AreSound (set files slot is)
+sound_at files slot was is r sound step = sound_change files (set files slot is) slot was is (rewrites files slot was is r) sound step
+
+pub sound_of : (files : List Stored) (slot : ℕ) (was is : Stored) → Rewrites files slot was is → AreSound files → IsSound was
+sound_of files slot was is r sound = sound slot was (held_file files slot was r.held r.read)
+
+pub sound_added : (old new : List Stored) (place : ℕ) (is : Stored) → Adds old new place is → AreSound old → IsSound is → AreSound new
+sound_added old new place is ad sound here = λ k f fk. elim (cases_eq k place) [
+  | inl a ↦ let is_file : is ≡ f = same_Some is f (sym ad.put ∙ sym (ap (λ n. slice_get new n) a) ∙ fk) in subst IsSound is_file here
+  | inr a ↦ sound k f (sym (ad.others k a) ∙ fk)
+]
+
+sound_given_up : (f : Stored) → IsSound f → IsSound (let_go f)
+sound_given_up f sound = record { reads = sound.reads; grown = sound.grown }
+
+pub sound_let_go : (old : List Stored) → AreSound old → AreSound (map let_go old)
+sound_let_go old sound = λ k f fk. let a = slice_get-map_some let_go old k f fk in subst IsSound a.2 (sound_given_up a.0 (sound k a.0 a.1))
+
+pub changed : (step : List ℕ → List ℕ → Type 0) (files : List Stored) (slot : ℕ) (was is : Stored) → Rewrites files slot was is → OneEach files → AreSound files
+    → Follows step (IsLeft was.left) (IsLeft is.left) → Leads step (IsLeft was.left) (IsLeft is.left) → IsSound is → IsChange slot step files (set files slot is)
+changed step files slot was is r each sound back_is forth_is here = record {
+  others = others_at (λ file c. file.text ≡ c) files slot was is r;
+  tells = tells_at files slot was is r;
+  left = record {
+    back = follows_at (λ file c. IsLeft file.left c) step files slot was is r each back_is;
+    forth = leads_at (λ file c. IsLeft file.left c) step files slot was is r each forth_is;
+    others_back = others_at (λ file c. IsLeft file.left c) files slot was is r;
+    others_forth = others_before (λ file c. IsLeft file.left c) files slot was is r;
+  };
+  slots = slots_at files slot was is r;
+  one_each = one_each files (set files slot is) slot was is (rewrites files slot was is r) each;
+  sound = sound_at files slot was is r sound (λ _. here);
+}
+
+-- the file's text changes by a step
+pub text_at : (step : List ℕ → List ℕ → Type 0) (files : List Stored) (slot : ℕ) (was is : Stored) → Rewrites files slot was is → OneEach files → step was.text is.text
+    → Follows step (texts_in files (name_at (slots_in files slot))) (texts_in (set files slot is) (name_at (slots_in files slot)))
+text_at step files slot was is r each h = follows_at (λ file c. file.text ≡ c) step files slot was is r each (λ c e. (was.text, refl, subst (λ t. step was.text t) e h))
+
+-- or not at all
+pub text_stays : (files : List Stored) (slot : ℕ) (was is : Stored) → Rewrites files slot was is → is.text ≡ was.text → SameContents (texts_in files) (texts_in (set files slot is))
+text_stays files slot was is r same = same_at (λ file c. file.text ≡ c) files slot was is r (λ c e. sym same ∙ e)
 
 -- all files are given up
 pub all_let_go : (old new : List Stored) (i : ℕ) → length old ≤ i → new ≡ map let_go (take i old) ++ drop i old → new ≡ map let_go old

@@ -46,6 +46,10 @@ pub record Holds (before now : Slots) (slot : ℕ) (name : List ℕ) (most : ℕ
 abbrev pub Follows : (List ℕ → List ℕ → Type 0) → (List ℕ → Type 0) → (List ℕ → Type 0) → Type 0
 Follows step old new = (c : List ℕ) → new c → (d : List ℕ) × old d × step d c
 
+-- what this step makes of what was there is there now
+abbrev pub Leads : (List ℕ → List ℕ → Type 0) → (List ℕ → Type 0) → (List ℕ → Type 0) → Type 0
+Leads step old new = (d c : List ℕ) → old d → step d c → new c
+
 -- what is there is one of these
 abbrev pub Within : (List ℕ → Type 0) → (List ℕ → Type 0) → Type 0
 Within these new = (c : List ℕ) → new c → these c
@@ -57,6 +61,18 @@ SameContents old new = (n c : List ℕ) → new n c → old n c
 -- nothing new under any other name
 abbrev pub SameOthers : List ℕ → Contents → Contents → Type 0
 SameOthers name old new = (n c : List ℕ) → n ≢ name → new n c → old n c
+
+-- the same under every name
+pub record Stay (old new : Contents) : Type 0 where
+  pub back : SameContents old new
+  pub forth : SameContents new old
+
+-- under this name exactly what the step makes of what was there, and under the others the same
+pub record Becomes (name : List ℕ) (step : List ℕ → List ℕ → Type 0) (old new : Contents) : Type 0 where
+  pub back : Follows step (old name) (new name)
+  pub forth : Leads step (old name) (new name)
+  pub others_back : SameOthers name old new
+  pub others_forth : SameOthers name new old
 
 -- what was told is still told
 abbrev pub Tells : Contents → Contents → Type 0

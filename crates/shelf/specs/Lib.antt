@@ -2,6 +2,9 @@ pub mod Causes
 pub mod Disk
 pub mod Memory
 pub mod Moments
+pub mod Past
+pub mod Reads
 pub mod Sinks
 pub mod Stored
 pub mod Stream
+pub mod Turns

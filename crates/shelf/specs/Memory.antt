@@ -1,35 +1,47 @@
 -- What a shelf in memory shows, and which of its calls fails.
-use Rattle.std.specs.Prelude.{ℕ, ◌≡◌, ◌+◌, ◌-◌, ◌^◌, min, ◌↔◌, ◌==◌, if◌then◌else◌}
+use Rattle.std.specs.Prelude.{ℕ, ◌≡◌, ◌≤◌, ◌⊎◌, Bool, List, ◌∷◌, length, Some}
 use Rattle.shelf.specs.declared.mem_shelf.MemShelf.{MemShelf}
+use Rattle.shelf.specs.declared.turns.Turns.{Turns}
 use Rattle.shelf.specs.Disk.{Contents, Images, Slots}
-use Rattle.shelf.specs.Stored.{slots_in, texts_in}
+use Rattle.shelf.specs.Past.{files_at, images_at, past_of}
+use Rattle.shelf.specs.Stored.{Stored, images_in, slots_in, texts_in}
+use Rattle.shelf.specs.Turns.{TakesTurn}
 
 -- what a read gives
 abbrev pub held_by : MemShelf → Contents
 held_by shelf = texts_in shelf.files.items
 
--- what a crash may leave
-abbrev pub images_of : MemShelf → Images
-images_of shelf m = texts_in shelf.files.items
+-- the files now and as they were at each moment since it was made, the latest first
+abbrev pub told_by : MemShelf → List (List Stored)
+told_by shelf = shelf.files.items ∷ past_of shelf.past
 
--- the present moment
+-- what a crash may leave at each moment
+abbrev pub images_of : MemShelf → Images
+images_of shelf = images_at (told_by shelf)
+
+-- what a crash now may leave
+abbrev pub left_by : MemShelf → Contents
+left_by shelf = images_in shelf.files.items
+
+-- the present moment: how many changes there were
 abbrev pub moment_of : MemShelf → ℕ
-moment_of shelf = 0
+moment_of shelf = length (past_of shelf.past)
 
 -- the files that are held
 abbrev pub slots_of : MemShelf → Slots
 slots_of shelf = slots_in shelf.files.items
 
+abbrev pub turns_of : MemShelf → Turns
+turns_of shelf = shelf.turns
+
 -- how often it has failed
 abbrev pub failures_of : MemShelf → ℕ
-failures_of shelf = shelf.failures
+failures_of shelf = shelf.turns.failures
 
--- which counted call from now on fails: 1 is the next one, and 0 none
-abbrev pub failing_in : MemShelf → ℕ
-failing_in shelf = shelf.countdown
+-- no moment was added, and those before this one stand as they were
+abbrev pub NoMoment : MemShelf → MemShelf → Type 0
+NoMoment old new = past_of new.past ≡ past_of old.past
 
--- one counted call: it fails exactly where it is the one that was named, and the count rises exactly then
-pub record TakesTurn (old new : MemShelf) (Fault : Type 0) : Type 0 where
-  pub fails : Fault ↔ (failing_in old ≡ 1)
-  pub next : failing_in new ≡ failing_in old - 1
-  pub counted : failures_of new ≡ (if failing_in old == 1 then min (failures_of old + 1) (2 ^ 64 - 1) else failures_of old)
+-- one moment was added, and those up to the old one stand as they were
+abbrev pub OneMoment : MemShelf → MemShelf → Type 0
+OneMoment old new = past_of new.past ≡ told_by old

@@ -8,8 +8,10 @@ mod folder_shelf;
 mod mem_file;
 mod mem_shelf;
 mod mem_sink;
+mod past;
 mod sink;
 mod std_sink;
+mod turns;
 #[cfg(test)]
 mod tests;
 

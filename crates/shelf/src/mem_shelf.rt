@@ -1,50 +1,73 @@
 // The storage in memory, with failures on demand.
-ghost use Rattle.std.specs.Prelude.{◌≡◌, ◌+◌, ◌-◌, ◌^◌, ◌≤◌, ◌↔◌, ◌==◌, min, ℕ, List, [], length, IfOk, IfSome, IfNone, OnOk, OnErr, IsErr, IsErrOf, IsSome, IsSomeAnd, IsTrue, None, slice_get, if◌then◌else◌};
+ghost use Rattle.std.specs.Prelude.{◌≡◌, ◌+◌, ◌≤◌, ℕ, List, [], ◌∷◌, true, false, length, Some, IfOk, IfSome, IfNone, OnOk, OnErr, IsErr, IsErrOf, IsSome, IsSomeAnd, None, slice_get};
 ghost use Rattle.shelf.specs.Causes.{HasCause};
-ghost use Rattle.shelf.specs.Disk.{name_at, most_at, IsFree, SameSlots, Holds, Follows, Within, SameContents, SameOthers, Tells, Written, Torn, Shortened, Cut, Trimmed, bytes_from};
+ghost use Rattle.shelf.specs.Disk.{name_at, most_at, IsFree, SameSlots, Holds, Follows, Within, SameContents, SameOthers, Tells, Written, Torn, Shortened, Cut, Trimmed, bytes_from, Becomes, Stay};
 ghost use Rattle.shelf.specs.Moments.{Passes};
-ghost use Rattle.shelf.specs.Stored.{Stored, slots_in, texts_in, IsAbsent, OneEach};
+ghost use Rattle.shelf.specs.Past.{past_of, AllSound};
+ghost use Rattle.shelf.specs.Stored.{Stored, slots_in, texts_in, images_in, IsAbsent, OneEach, AreSound, IsChange};
+ghost use Rattle.shelf.specs.Turns.{IsDue, TakesTurn};
 
-use crate::count::raise;
 use crate::mem_file::MemFile;
+use crate::past::Past;
+use crate::turns::Turns;
 use crate::{Failed, HoldFail, Shelf};
 use std::alloc::Global;
 
-/// Files in memory. It tells what a read of each name gives.
+/// Files in memory. It tells what a read of each name gives, and of every moment since it was made
+/// all that a crash then may leave.
 #[derive(Drop)]
 pub struct MemShelf {
     files: Vec<MemFile>,
-    countdown: u64,
-    failures: u64,
+    past: Option<Past>,
+    turns: Turns,
     ghost one_each: { OneEach files.items },
+    ghost sound: { AllSound (files.items ∷ past_of past) },
 }
 
 impl MemShelf {
-    ghost use Rattle.shelf.specs.Memory.{held_by, slots_of, failures_of, failing_in};
+    ghost use Rattle.shelf.specs.Memory.{held_by, images_of, left_by, told_by, moment_of, slots_of, turns_of, failures_of};
 
     pub fn new(alloc: Global) -> MemShelf
         ensures empty { (name : List ℕ) → held_by result name [] }
         ensures no_more { (name text : List ℕ) → held_by result name text → text ≡ [] }
         ensures free { (k : ℕ) → slots_of result k ≡ None }
+        ensures left { (name text : List ℕ) → left_by result name text → text ≡ [] }
+        ensures moment { moment_of result ≡ 0 }
         ensures failures { failures_of result ≡ 0 }
-        ensures failing { failing_in result ≡ 0 }
+        ensures failing { ¬ IsDue (turns_of result) }
     {
         MemShelf {
             files: Vec::new(alloc),
-            countdown: 0,
-            failures: 0,
+            past: None,
+            turns: Turns::new(0),
         }
     }
 
-    /// From now on the call of this number, from 1, fails, and no other. `let_go` isn't counted.
+    /// From now on the call of this number, from 1, fails, and no other; what `stop_after` said
+    /// stays. `let_go` isn't counted.
     pub fn fail_on(&mut self, call: u64)
-        ensures failing { failing_in self.new ≡ call }
-        ensures failures { failures_of self.new ≡ failures_of self.old }
-        ensures contents { SameContents (held_by self.old) (held_by self.new) }
-        ensures tells { Tells (held_by self.old) (held_by self.new) }
-        ensures slots { SameSlots (slots_of self.old) (slots_of self.new) }
+        ensures turns { turns_of self.new ≡ record (turns_of self.old) { countdown = call } }
+        ensures files { told_by self.new ≡ told_by self.old }
     {
-        self.countdown = call;
+        self.turns.countdown = call;
+    }
+
+    /// After so many calls of `write_at`, `cut` and `sync` from now on every call but `let_go`
+    /// fails.
+    pub fn stop_after(&mut self, changes: u64)
+        ensures turns { turns_of self.new ≡ record (turns_of self.old) { changes_left = Some changes } }
+        ensures files { told_by self.new ≡ told_by self.old }
+    {
+        self.turns.changes_left = Some(changes);
+    }
+
+    /// Whether the record of moments was given up. It takes no memory, and so it never is.
+    pub fn lost(&self) -> bool
+        ensures kept { result ≡ false }
+        ensures told { (m : ℕ) → m ≤ moment_of self.now → (name : List ℕ) →
+            (text : List ℕ) × images_of self.now m name text }
+    {
+        false
     }
 
     /// What a read of this name gives, and no bytes where there is no such file.
@@ -60,7 +83,8 @@ impl MemShelf {
 }
 
 impl Shelf for MemShelf {
-    ghost use Rattle.shelf.specs.Memory.{held_by, images_of, moment_of, slots_of, failures_of, failing_in, TakesTurn};
+    ghost use Rattle.shelf.specs.Reads.{reads_left};
+    ghost use Rattle.shelf.specs.Memory.{held_by, images_of, left_by, moment_of, slots_of, turns_of, failures_of, NoMoment, OneMoment};
 
     ghost holds = { λ shelf. held_by shelf };
 
@@ -72,7 +96,7 @@ impl Shelf for MemShelf {
 
     ghost faults = { λ shelf. failures_of shelf };
 
-    ghost reads_an_image = { λ _ _ _ held. held };
+    ghost reads_an_image = { λ shelf name bytes held. reads_left shelf.files.items (past_of shelf.past) shelf.sound name bytes held };
 
     fn hold(&mut self, alloc: Global, name: &[u8], most: u64) -> Result<u32, HoldFail>
         requires { IsFree (slots_of self.old) name.now }
@@ -86,9 +110,11 @@ impl Shelf for MemShelf {
         ensures time { Passes (moment_of self.old) (moment_of self.new) (images_of self.old) (images_of self.new) }
         ensures cause { HasCause (failures_of self.old) (failures_of self.new)
             (IsErrOf result HoldFail.Failed) }
-        ensures turn { TakesTurn self.old self.new (IsErrOf result HoldFail.Failed) }
+        ensures turn { TakesTurn false (turns_of self.old) (turns_of self.new) (IsErrOf result HoldFail.Failed) }
+        ensures moments { NoMoment self.old self.new }
+        ensures exact { Stay (left_by self.old) (left_by self.new) }
     {
-        if is_due(&mut self.countdown, &mut self.failures) {
+        if self.turns.take(false) {
             return Err(HoldFail::Failed);
         }
         match hold_in(&mut self.files, alloc, name, most) {
@@ -105,8 +131,9 @@ impl Shelf for MemShelf {
             (images_of self.new (moment_of self.new)) }
         ensures time { Passes (moment_of self.old) (moment_of self.new) (images_of self.old) (images_of self.new) }
         ensures later { failures_of self.old ≤ failures_of self.new }
-        ensures failures { failures_of self.new ≡ failures_of self.old }
-        ensures failing { failing_in self.new ≡ failing_in self.old }
+        ensures turns { turns_of self.new ≡ turns_of self.old }
+        ensures moments { NoMoment self.old self.new }
+        ensures exact { Stay (left_by self.old) (left_by self.new) }
     {
         let_go_all(&mut self.files);
     }
@@ -122,9 +149,11 @@ impl Shelf for MemShelf {
         ensures time { Passes (moment_of self.old) (moment_of self.new) (images_of self.old) (images_of self.new) }
         ensures slots { SameSlots (slots_of self.old) (slots_of self.new) }
         ensures cause { HasCause (failures_of self.old) (failures_of self.new) (IsErr result) }
-        ensures turn { TakesTurn self.old self.new (IsErr result) }
+        ensures turn { TakesTurn false (turns_of self.old) (turns_of self.new) (IsErr result) }
+        ensures moments { NoMoment self.old self.new }
+        ensures exact { Stay (left_by self.old) (left_by self.new) }
     {
-        if is_due(&mut self.countdown, &mut self.failures) {
+        if self.turns.take(false) {
             return Err(Failed);
         }
         Ok(text_at(&self.files, slot).len() as u64)
@@ -144,10 +173,12 @@ impl Shelf for MemShelf {
         ensures time { Passes (moment_of self.old) (moment_of self.new) (images_of self.old) (images_of self.new) }
         ensures slots { SameSlots (slots_of self.old) (slots_of self.new) }
         ensures cause { HasCause (failures_of self.old) (failures_of self.new) (IsErr result) }
-        ensures turn { TakesTurn self.old self.new (IsErr result) }
+        ensures turn { TakesTurn false (turns_of self.old) (turns_of self.new) (IsErr result) }
         ensures untouched { OnErr result (out.new ≡ out.old) }
+        ensures moments { NoMoment self.old self.new }
+        ensures exact { Stay (left_by self.old) (left_by self.new) }
     {
-        if is_due(&mut self.countdown, &mut self.failures) {
+        if self.turns.take(false) {
             return Err(Failed);
         }
         let text = text_at(&self.files, slot);
@@ -178,13 +209,18 @@ impl Shelf for MemShelf {
         ensures time { Passes (moment_of self.old) (moment_of self.new) (images_of self.old) (images_of self.new) }
         ensures slots { SameSlots (slots_of self.old) (slots_of self.new) }
         ensures cause { HasCause (failures_of self.old) (failures_of self.new) (IsErr result) }
-        ensures turn { TakesTurn self.old self.new (IsErr result) }
+        ensures turn { TakesTurn true (turns_of self.old) (turns_of self.new) (IsErr result) }
         ensures untouched { OnErr result (SameContents (held_by self.old) (held_by self.new)) }
+        ensures moments { OneMoment self.old self.new }
+        ensures exact { Becomes (name_at (slots_of self.old slot)) (Torn at (length bytes.now))
+            (left_by self.old) (left_by self.new) }
     {
-        if is_due(&mut self.countdown, &mut self.failures) {
+        self.past = Some(Past::after(&self.past, &self.files));
+        if self.turns.take(true) {
+            tear_in(&mut self.files, slot, at, bytes.len());
             return Err(Failed);
         }
-        self.files[slot as usize].write(at, bytes);
+        write_in(&mut self.files, slot, at, bytes);
         Ok(())
     }
 
@@ -212,13 +248,20 @@ impl Shelf for MemShelf {
         ensures time { Passes (moment_of self.old) (moment_of self.new) (images_of self.old) (images_of self.new) }
         ensures slots { SameSlots (slots_of self.old) (slots_of self.new) }
         ensures cause { HasCause (failures_of self.old) (failures_of self.new) (IsErr result) }
-        ensures turn { TakesTurn self.old self.new (IsErr result) }
+        ensures turn { TakesTurn true (turns_of self.old) (turns_of self.new) (IsErr result) }
         ensures untouched { OnErr result (SameContents (held_by self.old) (held_by self.new)) }
+        ensures moments { OneMoment self.old self.new }
+        ensures exact { OnOk result (Becomes (name_at (slots_of self.old slot)) (Cut size)
+            (left_by self.old) (left_by self.new)) }
+        ensures exact_begun { OnErr result (Becomes (name_at (slots_of self.old slot)) (Trimmed size)
+            (left_by self.old) (left_by self.new)) }
     {
-        if is_due(&mut self.countdown, &mut self.failures) {
+        self.past = Some(Past::after(&self.past, &self.files));
+        if self.turns.take(true) {
+            fray_in(&mut self.files, slot, size);
             return Err(Failed);
         }
-        self.files[slot as usize].cut(size);
+        cut_in(&mut self.files, slot, size);
         Ok(())
     }
 
@@ -234,30 +277,18 @@ impl Shelf for MemShelf {
         ensures time { Passes (moment_of self.old) (moment_of self.new) (images_of self.old) (images_of self.new) }
         ensures slots { SameSlots (slots_of self.old) (slots_of self.new) }
         ensures cause { HasCause (failures_of self.old) (failures_of self.new) (IsErr result) }
-        ensures turn { TakesTurn self.old self.new (IsErr result) }
+        ensures turn { TakesTurn true (turns_of self.old) (turns_of self.new) (IsErr result) }
+        ensures moments { OneMoment self.old self.new }
+        ensures exact { SameOthers (name_at (slots_of self.old slot)) (left_by self.new) (left_by self.old) }
+        ensures exact_begun { OnErr result (Stay (left_by self.old) (left_by self.new)) }
     {
-        let _ = slot;
-        if is_due(&mut self.countdown, &mut self.failures) {
+        self.past = Some(Past::after(&self.past, &self.files));
+        if self.turns.take(true) {
             return Err(Failed);
         }
+        sync_in(&mut self.files, slot);
         Ok(())
     }
-}
-
-/// Counts a call, and says whether it is the one that fails.
-fn is_due(countdown: &mut u64, failures: &mut u64) -> bool
-    ensures due { IsTrue result ↔ (countdown.old ≡ 1) }
-    ensures next { countdown.new ≡ countdown.old - 1 }
-    ensures counted { failures.new ≡ (if countdown.old == 1 then min (failures.old + 1) (2 ^ 64 - 1)
-        else failures.old) }
-    ensures later { failures.old ≤ failures.new }
-{
-    let due = *countdown == 1;
-    *countdown = countdown.saturating_sub(1);
-    if due {
-        raise(failures);
-    }
-    due
 }
 
 /// The place of the file with this name.
@@ -285,6 +316,76 @@ fn text_at(files: &[MemFile], slot: u32) -> &[u8]
     files[slot as usize].text()
 }
 
+/// Writes into the file in a slot.
+fn write_in(files: &mut Vec<MemFile>, slot: u32, at: u64, bytes: &[u8])
+    requires one_each { OneEach files.old.items }
+    requires sound { AreSound files.old.items }
+    requires held { IsSome (slots_in files.old.items slot) }
+    requires begins { (c : List ℕ) → texts_in files.old.items (name_at (slots_in files.old.items slot)) c →
+        at ≤ length c }
+    requires fits { at + length bytes.now ≤ most_at (slots_in files.old.items slot) }
+    ensures written { Follows (Written at bytes.now)
+        (texts_in files.old.items (name_at (slots_in files.old.items slot)))
+        (texts_in files.new.items (name_at (slots_in files.old.items slot))) }
+    ensures changed { IsChange slot (Torn at (length bytes.now)) files.old.items files.new.items }
+{
+    files[slot as usize].write(at, bytes);
+}
+
+/// Begins a write into the file in a slot.
+fn tear_in(files: &mut Vec<MemFile>, slot: u32, at: u64, count: usize)
+    requires one_each { OneEach files.old.items }
+    requires sound { AreSound files.old.items }
+    requires held { IsSome (slots_in files.old.items slot) }
+    requires begins { (c : List ℕ) → texts_in files.old.items (name_at (slots_in files.old.items slot)) c →
+        at ≤ length c }
+    requires fits { at + count ≤ most_at (slots_in files.old.items slot) }
+    ensures contents { SameContents (texts_in files.old.items) (texts_in files.new.items) }
+    ensures changed { IsChange slot (Torn at count) files.old.items files.new.items }
+{
+    files[slot as usize].tear(at, count);
+}
+
+/// Cuts the file in a slot.
+fn cut_in(files: &mut Vec<MemFile>, slot: u32, size: u64)
+    requires one_each { OneEach files.old.items }
+    requires sound { AreSound files.old.items }
+    requires held { IsSome (slots_in files.old.items slot) }
+    requires shortens { (c : List ℕ) → texts_in files.old.items (name_at (slots_in files.old.items slot)) c →
+        size ≤ length c }
+    ensures shortened { Follows (Shortened size)
+        (texts_in files.old.items (name_at (slots_in files.old.items slot)))
+        (texts_in files.new.items (name_at (slots_in files.old.items slot))) }
+    ensures changed { IsChange slot (Cut size) files.old.items files.new.items }
+{
+    files[slot as usize].cut(size);
+}
+
+/// Begins to cut the file in a slot.
+fn fray_in(files: &mut Vec<MemFile>, slot: u32, size: u64)
+    requires one_each { OneEach files.old.items }
+    requires sound { AreSound files.old.items }
+    requires held { IsSome (slots_in files.old.items slot) }
+    requires shortens { (c : List ℕ) → texts_in files.old.items (name_at (slots_in files.old.items slot)) c →
+        size ≤ length c }
+    ensures contents { SameContents (texts_in files.old.items) (texts_in files.new.items) }
+    ensures changed { IsChange slot (Trimmed size) files.old.items files.new.items }
+{
+    files[slot as usize].fray(size);
+}
+
+/// Syncs the file in a slot.
+fn sync_in(files: &mut Vec<MemFile>, slot: u32)
+    requires one_each { OneEach files.old.items }
+    requires sound { AreSound files.old.items }
+    requires held { IsSome (slots_in files.old.items slot) }
+    ensures contents { SameContents (texts_in files.old.items) (texts_in files.new.items) }
+    ensures contents_before { SameContents (texts_in files.new.items) (texts_in files.old.items) }
+    ensures changed { IsChange slot (λ _ c. texts_in files.old.items (name_at (slots_in files.old.items slot)) c) files.old.items files.new.items }
+{
+    files[slot as usize].sync();
+}
+
 /// Holds the file with this name, or a new one, and answers its slot. None is want of memory.
 fn hold_in(files: &mut Vec<MemFile>, alloc: Global, name: &[u8], most: u64) -> Option<u32>
     requires one_each { OneEach files.old.items }
@@ -295,7 +396,10 @@ fn hold_in(files: &mut Vec<MemFile>, alloc: Global, name: &[u8], most: u64) -> O
         (SameSlots (slots_in files.old.items) (slots_in files.new.items)) }
     ensures contents { SameContents (texts_in files.old.items) (texts_in files.new.items) }
     ensures tells { Tells (texts_in files.old.items) (texts_in files.new.items) }
+    ensures left { SameContents (images_in files.old.items) (images_in files.new.items) }
+    ensures left_before { SameContents (images_in files.new.items) (images_in files.old.items) }
     ensures one_each { OneEach files.new.items }
+    ensures sound { AreSound files.old.items → AreSound files.new.items }
 {
     let place = find(files, name);
     let Ok(slot) = u32::try_from(place.unwrap_or(files.len())) else {
@@ -325,7 +429,10 @@ fn let_go_all(files: &mut [MemFile])
     ensures free { (k : ℕ) → slots_in files.new k ≡ None }
     ensures contents { SameContents (texts_in files.old) (texts_in files.new) }
     ensures tells { Tells (texts_in files.old) (texts_in files.new) }
+    ensures left { SameContents (images_in files.old) (images_in files.new) }
+    ensures left_before { SameContents (images_in files.new) (images_in files.old) }
     ensures one_each { OneEach files.new }
+    ensures sound { AreSound files.old → AreSound files.new }
 {
     for file in files.iter_mut() {
         file.let_go();

@@ -1,8 +1,8 @@
 use Rattle.std.proofs.Common.{◌≡◌, ◌∙◌, ℕ, None, ap, sym, subst, arith, set}
 use Rattle.std.proofs.lemmas.List.Edits.{map_over_more}
 use Rattle.shelf.specs.Disk.{SameContents, Tells}
-use Rattle.shelf.specs.Stored.{slots_in, texts_in, OneEach}
-use Rattle.shelf.proofs.ShelfLemmas.{let_go, all_let_go, all_free, same_texts_let_go, still_tells_let_go, one_each_let_go}
+use Rattle.shelf.specs.Stored.{slots_in, texts_in, images_in, OneEach, AreSound, IsLeft}
+use Rattle.shelf.proofs.ShelfLemmas.{let_go, all_let_go, all_free, same_under_let_go, same_before_let_go, sound_let_go, still_tells_let_go, one_each_let_go}
 use Rattle.shelf.proofs.mem_shelf.let_go_all.Goals as goal
 
 pub loop-file-preserved : goal.loop-file-preserved
@@ -20,7 +20,7 @@ returns-clause-free c =
 pub returns-clause-contents : goal.returns-clause-contents
 returns-clause-contents c =
     let whole = all_let_go c.args.files.now c.loop-file.files c.loop-file.file-index (omega arith) c.loop-file.invariant in
-    subst (λ l. SameContents (texts_in c.args.files.now) (texts_in l)) (sym whole) (same_texts_let_go c.args.files.now)
+    subst (λ l. SameContents (texts_in c.args.files.now) (texts_in l)) (sym whole) (same_under_let_go (λ f t. f.text ≡ t) c.args.files.now (λ f t e. e))
 
 pub returns-clause-tells : goal.returns-clause-tells
 returns-clause-tells c =
@@ -31,3 +31,18 @@ pub returns-clause-one_each : goal.returns-clause-one_each
 returns-clause-one_each c =
     let whole = all_let_go c.args.files.now c.loop-file.files c.loop-file.file-index (omega arith) c.loop-file.invariant in
     subst (λ l. OneEach l) (sym whole) (one_each_let_go c.args.files.now c.requires)
+
+pub returns-clause-left : goal.returns-clause-left
+returns-clause-left c =
+    let whole = all_let_go c.args.files.now c.loop-file.files c.loop-file.file-index (omega arith) c.loop-file.invariant in
+    subst (λ l. SameContents (images_in c.args.files.now) (images_in l)) (sym whole) (same_under_let_go (λ f c. IsLeft f.left c) c.args.files.now (λ f t left. left))
+
+pub returns-clause-left_before : goal.returns-clause-left_before
+returns-clause-left_before c =
+    let whole = all_let_go c.args.files.now c.loop-file.files c.loop-file.file-index (omega arith) c.loop-file.invariant in
+    subst (λ l. SameContents (images_in l) (images_in c.args.files.now)) (sym whole) (same_before_let_go (λ f c. IsLeft f.left c) c.args.files.now (λ f t left. left))
+
+pub returns-clause-sound : goal.returns-clause-sound
+returns-clause-sound c = λ sound.
+    let whole = all_let_go c.args.files.now c.loop-file.files c.loop-file.file-index (omega arith) c.loop-file.invariant in
+    subst AreSound (sym whole) (sound_let_go c.args.files.now sound)
