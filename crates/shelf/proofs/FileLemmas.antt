@@ -1,6 +1,8 @@
 -- The bytes of a buffer, and what a file over its front reads as.
-use Rattle.std.proofs.Common.{◌≡◌, ◌+◌, ◌<◌, ◌≤◌, ℕ, List, length, take, get_or, max, min, ap, refl, ◌∙◌, arith, length-take}
-use Rattle.std.proofs.lemmas.List.{get_or-take}
+use Rattle.std.proofs.Common.{◌≡◌, ◌+◌, ◌<◌, ◌≤◌, ℕ, Bool, List, length, take, get_or, max, min, inl, inr, ap, refl, sym, ◌∙◌, arith, length-take}
+use Rattle.std.proofs.lemmas.List.{get_or-take, get_or_past}
+use Rattle.std.proofs.lemmas.Bool.{cases_lt}
+use Rattle.shelf.specs.Picks.{byte_by}
 use Rattle.shelf.specs.Disk.{Written, Torn, Cut, Trimmed}
 
 -- a file's front of a buffer, after bytes were written into the buffer
@@ -57,3 +59,14 @@ torn_not_at_all at count c = record { no_shorter = omega arith; no_longer = omeg
 
 pub trimmed_not_at_all : (size : ℕ) (c : List ℕ) → Trimmed size c c
 trimmed_not_at_all size c = record { no_shorter = omega arith; no_longer = omega arith; below = λ k a b d. refl }
+
+-- fronts of two lists agree where the lists do
+pub same_in_front : (n k : ℕ) (xs ys : List ℕ) → get_or xs k 0 ≡ get_or ys k 0 → get_or (take n xs) k 0 ≡ get_or (take n ys) k 0
+same_in_front n k xs ys same = elim (cases_lt k n) [
+  | inl lt ↦ get_or-take n xs k 0 lt ∙ same ∙ sym (get_or-take n ys k 0 lt)
+  | inr ge ↦ get_or_past (take n xs) k 0 (omega (arith, ge, length-take n xs)) ∙ sym (get_or_past (take n ys) k 0 (omega (arith, ge, length-take n ys)))
+]
+
+pub same_byte : (t t' : Bool) (w w' n n' h h' v v' : ℕ) → t ≡ t' → w ≡ w' → n ≡ n' → h ≡ h' → v ≡ v' → byte_by t w n h v ≡ byte_by t' w' n' h' v'
+same_byte t t' w w' n n' h h' v v' a b c d e =
+    ap (λ x. byte_by x w n h v) a ∙ ap (λ x. byte_by t' x n h v) b ∙ ap (λ x. byte_by t' w' x h v) c ∙ ap (λ x. byte_by t' w' n' x v) d ∙ ap (λ x. byte_by t' w' n' h' x) e

@@ -1,5 +1,6 @@
 pub mod FileLemmas
 pub mod ImageLemmas
 pub mod PastLemmas
+pub mod PickLemmas
 pub mod ShelfLemmas
 pub mod Steps

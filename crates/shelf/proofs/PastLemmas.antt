@@ -100,7 +100,7 @@ absent_in_both : (x : Stored) (files : List Stored) (name : List ℕ) → (x.nam
 absent_in_both x files name apart none zero f e = λ same. apart (ap (λ y. y.name) (same_Some x f e) ∙ same)
 absent_in_both x files name apart none (suc k) f e = none k f e
 
-find_name : (files : List Stored) (name : List ℕ) → ((k : ℕ) × (f : Stored) × (slice_get files k ≡ Some f) × (f.name ≡ name)) ⊎ IsAbsent files name
+pub find_name : (files : List Stored) (name : List ℕ) → ((k : ℕ) × (f : Stored) × (slice_get files k ≡ Some f) × (f.name ≡ name)) ⊎ IsAbsent files name
 find_name [] name = inr (λ k f e. absurd (none-some f e))
 find_name (x ∷ files) name = elim (cases_names x.name name) [
   | inl a ↦ inl (0, x, refl, a)

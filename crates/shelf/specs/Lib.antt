@@ -3,6 +3,7 @@ pub mod Disk
 pub mod Memory
 pub mod Moments
 pub mod Past
+pub mod Picks
 pub mod Reads
 pub mod Sinks
 pub mod Stored

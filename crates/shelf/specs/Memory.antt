@@ -7,6 +7,9 @@ use Rattle.shelf.specs.Past.{files_at, images_at, past_of}
 use Rattle.shelf.specs.Stored.{Stored, images_in, slots_in, texts_in}
 use Rattle.shelf.specs.Turns.{TakesTurn}
 
+abbrev pub files_of : MemShelf → List Stored
+files_of shelf = shelf.files.items
+
 -- what a read gives
 abbrev pub held_by : MemShelf → Contents
 held_by shelf = texts_in shelf.files.items

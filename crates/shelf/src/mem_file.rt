@@ -1,6 +1,7 @@
 // One file in memory, and what a crash may leave of it.
-ghost use Rattle.std.specs.Prelude.{◌≡◌, ◌+◌, ◌<◌, ◌≤◌, ◌↔◌, ℕ, List, [], true, false, length, take, min, IsTrue, IfOk, OnOk, OnErr, slice_index, slice_index_or, vec_len};
+ghost use Rattle.std.specs.Prelude.{◌≡◌, ◌+◌, ◌*◌, ◌<◌, ◌≤◌, ◌↔◌, ℕ, List, [], true, false, length, take, min, IsTrue, MatchBool, IfOk, OnOk, OnErr, slice_index, slice_index_or, vec_len};
 ghost use Rattle.shelf.specs.Disk.{Written};
+ghost use Rattle.shelf.specs.Picks.{byte_by, EndsBy, IsPickedFile};
 ghost use Rattle.shelf.specs.Stored.{IsOpened, IsSettled, IsSound, IsTouched};
 
 use std::alloc::{AllocError, Global};
@@ -165,6 +166,29 @@ impl MemFile {
         self.shortest = self.len;
         self.longest = self.len;
     }
+
+    /// Leaves what the picks choose, and answers how many of them are this file's.
+    pub(crate) fn crash(&mut self, picks: &[u8]) -> usize
+        requires { IsSound self.old }
+        ensures picked { IsPickedFile self.old picks.now self.new }
+        ensures used { result ≡ 2 * length self.old.left.touched }
+    {
+        let touched = &self.touched[..self.longest];
+        let used = 2 * touched.len();
+        let end = end_of(touched, picks, self.shortest, self.synced_len, self.len);
+        choose(
+            &mut self.buffer,
+            self.len,
+            &self.synced[..self.synced_len],
+            touched,
+            picks,
+            end,
+        );
+        self.len = end;
+        self.is_held = false;
+        self.sync();
+        used
+    }
 }
 
 /// Makes the list as long as `room` at least.
@@ -214,5 +238,96 @@ fn clear(touched: &mut Vec<bool>)
 {
     for place in 0..touched.len() {
         touched[place] = false;
+    }
+}
+
+/// The pick of a number.
+fn pick(picks: &[u8], number: usize) -> u8
+    ensures { result ≡ slice_index picks.now number }
+{
+    if number < picks.len() {
+        picks[number]
+    } else {
+        0
+    }
+}
+
+/// Whether a file of these lengths ends at a place by its pick.
+fn ends_by(shortest: usize, synced: usize, now: usize, pick: u8, place: usize) -> bool
+    ensures { MatchBool result (EndsBy shortest synced now pick place) (¬ EndsBy shortest synced now pick place) }
+{
+    shortest <= place
+        && (pick == 0 && synced <= place || pick == 1 && now <= place || pick == 3)
+}
+
+/// Where the file ends by the picks, at its greatest length at the latest.
+fn end_of(touched: &[bool], picks: &[u8], shortest: usize, synced: usize, now: usize) -> usize
+    ensures no_longer { result ≤ length touched.now }
+    ensures goes_on { (k : ℕ) → k < result → ¬ EndsBy shortest synced now (slice_index picks.now (2 * k)) k }
+    ensures ends { result < length touched.now →
+        EndsBy shortest synced now (slice_index picks.now (2 * result)) result }
+{
+    for place in 0..touched.len() {
+        if ends_by(shortest, synced, now, pick(picks, 2 * place), place) {
+            return place;
+        }
+    }
+    touched.len()
+}
+
+/// The byte at a place, by its two picks.
+fn byte_of(touched: bool, synced: u8, now: u8, pick: u8, value: u8) -> u8
+    ensures { result ≡ byte_by touched synced now pick value }
+{
+    match pick {
+        _ if !touched => synced,
+        0 => synced,
+        1 => now,
+        _ => value,
+    }
+}
+
+fn is_touched(touched: &[bool], place: usize) -> bool
+    requires { place < length touched.now }
+    ensures { result ≡ slice_index_or touched.now place true }
+{
+    touched[place]
+}
+
+/// The byte at a place of the buffer's front, and 0 behind it.
+fn read_at(buffer: &Vec<u8>, place: usize, len: usize) -> u8
+    requires { place < vec_len buffer.now }
+    ensures { result ≡ slice_index (take len buffer.now.items) place }
+{
+    if place < len {
+        buffer[place]
+    } else {
+        0
+    }
+}
+
+/// Puts the bytes that the picks choose into the front of the buffer.
+fn choose(
+    buffer: &mut Vec<u8>,
+    len: usize,
+    synced: &[u8],
+    touched: &[bool],
+    picks: &[u8],
+    end: usize,
+)
+    requires room { end ≤ vec_len buffer.old }
+    requires within { end ≤ length touched.now }
+    ensures long { vec_len buffer.new ≡ vec_len buffer.old }
+    ensures bytes { (k : ℕ) → k < end → slice_index buffer.new.items k ≡ byte_by (slice_index_or touched.now k true)
+        (slice_index synced.now k) (slice_index (take len buffer.old.items) k)
+        (slice_index picks.now (2 * k)) (slice_index picks.now (2 * k + 1)) }
+{
+    for place in 0..end {
+        let now = read_at(buffer, place, len);
+        let was = pick(synced, place);
+        let how = pick(picks, 2 * place);
+        let value = pick(picks, 2 * place + 1);
+        let byte = byte_of(is_touched(touched, place), was, now, how, value);
+        buffer[place] = byte;
     }
 }

@@ -1,9 +1,10 @@
 // The storage in memory, with failures on demand.
-ghost use Rattle.std.specs.Prelude.{◌≡◌, ◌+◌, ◌≤◌, ℕ, List, [], ◌∷◌, true, false, length, Some, IfOk, IfSome, IfNone, OnOk, OnErr, IsErr, IsErrOf, IsSome, IsSomeAnd, None, slice_get};
+ghost use Rattle.std.specs.Prelude.{◌≡◌, ◌+◌, ◌≤◌, ℕ, List, [], ◌∷◌, true, false, drop, length, Some, IfOk, IfSome, IfNone, OnOk, OnErr, IsErr, IsErrOf, IsSome, IsSomeAnd, None, slice_get};
 ghost use Rattle.shelf.specs.Causes.{HasCause};
 ghost use Rattle.shelf.specs.Disk.{name_at, most_at, IsFree, SameSlots, Holds, Follows, Within, SameContents, SameOthers, Tells, Written, Torn, Shortened, Cut, Trimmed, bytes_from, Becomes, Stay};
 ghost use Rattle.shelf.specs.Moments.{Passes};
 ghost use Rattle.shelf.specs.Past.{past_of, AllSound};
+ghost use Rattle.shelf.specs.Picks.{ArePicked};
 ghost use Rattle.shelf.specs.Stored.{Stored, slots_in, texts_in, images_in, IsAbsent, OneEach, AreSound, IsChange};
 ghost use Rattle.shelf.specs.Turns.{IsDue, TakesTurn};
 
@@ -25,7 +26,7 @@ pub struct MemShelf {
 }
 
 impl MemShelf {
-    ghost use Rattle.shelf.specs.Memory.{held_by, images_of, left_by, told_by, moment_of, slots_of, turns_of, failures_of};
+    ghost use Rattle.shelf.specs.Memory.{files_of, held_by, images_of, left_by, told_by, moment_of, slots_of, turns_of, failures_of};
 
     pub fn new(alloc: Global) -> MemShelf
         ensures empty { (name : List ℕ) → held_by result name [] }
@@ -59,6 +60,29 @@ impl MemShelf {
         ensures files { told_by self.new ≡ told_by self.old }
     {
         self.turns.changes_left = Some(changes);
+    }
+
+    /// What a crash now leaves, chosen by the bytes of `picks`. Each place of each file takes two of
+    /// them, in the order in which the files were first held, up to the file's greatest length
+    /// since its last sync; past the end of `picks` they are 0. The first is 0 for the byte as at
+    /// the last sync, 1 for the byte that a read gives, 3 for the end of the file, and for any
+    /// other the second is the byte. A byte that wasn't written since the last sync stays, and a
+    /// file ends only where it may. Nothing is held afterwards, no call is to fail, and a new
+    /// record begins.
+    pub fn crash(mut self, picks: &[u8]) -> MemShelf
+        ensures picked { ArePicked (files_of self) picks.now (files_of result) }
+        ensures left { SameContents (left_by self) (held_by result) }
+        ensures told { (name : List ℕ) → (text : List ℕ) × held_by result name text }
+        ensures settled { SameContents (held_by result) (left_by result) }
+        ensures free { (k : ℕ) → slots_of result k ≡ None }
+        ensures moment { moment_of result ≡ 0 }
+        ensures turns { ¬ IsDue (turns_of result) }
+        ensures failures { failures_of result ≡ failures_of self }
+    {
+        crash_all(&mut self.files, picks);
+        self.past = None;
+        self.turns = Turns::new(self.turns.failures);
+        self
     }
 
     /// Whether the record of moments was given up. It takes no memory, and so it never is.
@@ -421,6 +445,32 @@ fn hold_in(files: &mut Vec<MemFile>, alloc: Global, name: &[u8], most: u64) -> O
         }
     }
     Some(slot)
+}
+
+/// What is left of `picks` behind so many.
+fn behind(picks: &[u8], used: usize) -> &[u8]
+    ensures { result.now ≡ drop used picks.now }
+{
+    if used < picks.len() {
+        &picks[used..]
+    } else {
+        &[]
+    }
+}
+
+/// Leaves of each file what the picks choose.
+fn crash_all(files: &mut Vec<MemFile>, picks: &[u8])
+    requires sound { AreSound files.old.items }
+    requires one_each { OneEach files.old.items }
+    ensures picked { ArePicked files.old.items picks.now files.new.items }
+    ensures one_each { OneEach files.new.items }
+    ensures sound { AreSound files.new.items }
+{
+    let mut rest = picks;
+    for place in 0..files.len() {
+        let used = files[place].crash(rest);
+        rest = behind(rest, used);
+    }
 }
 
 /// Gives up every slot.
