@@ -206,7 +206,7 @@ opened_forth size was is o d c left trimmed = record {
 -- ---- a sync
 
 -- lists that agree at each place
-same_list : (xs ys : List ℕ) → length xs ≡ length ys → ((k : ℕ) → k < length xs → get_or xs k 0 ≡ get_or ys k 0) → xs ≡ ys
+pub same_list : (xs ys : List ℕ) → length xs ≡ length ys → ((k : ℕ) → k < length xs → get_or xs k 0 ≡ get_or ys k 0) → xs ≡ ys
 same_list [] [] long same = refl
 same_list [] (y ∷ ys) long same = absurd (omega (arith, long))
 same_list (x ∷ xs) [] long same = absurd (omega (arith, long))

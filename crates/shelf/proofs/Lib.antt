@@ -1,4 +1,5 @@
 pub mod FileLemmas
+pub mod HavePicks
 pub mod ImageLemmas
 pub mod PastLemmas
 pub mod PickLemmas

@@ -5,6 +5,7 @@
 mod count;
 mod disk;
 mod folder_shelf;
+mod law;
 mod mem_file;
 mod mem_shelf;
 mod mem_sink;
@@ -17,6 +18,7 @@ mod tests;
 
 pub use disk::{HoldFail, Shelf};
 pub use folder_shelf::FolderShelf;
+pub use law::every_image_has_picks;
 pub use mem_shelf::MemShelf;
 pub use mem_sink::MemSink;
 pub use sink::{Failed, NoSink, Sink};
