@@ -1,11 +1,11 @@
 -- Each choice of one image under each name has its picks.
-use Rattle.std.proofs.Common.{◌≡◌, ◌+◌, ◌*◌, ◌^◌, ◌<◌, ◌≤◌, ◌⊎◌, ℕ, zero, suc, Bool, true, false, List, [], ◌∷◌, ◌++◌, length, drop, get_or, Some, inl, inr, refl, sym, ap, ◌∙◌, subst, arith}
+use Rattle.std.proofs.Common.{◌≡◌, ◌+◌, ◌*◌, ◌^◌, ◌<◌, ℕ, zero, suc, Bool, true, false, List, [], ◌∷◌, ◌++◌, length, drop, get_or, Some, inl, inr, refl, sym, ap, ◌∙◌, subst, arith}
 use Rattle.std.specs.List.{slice_get}
-use Rattle.std.proofs.lemmas.Bool.{cases_lt, cases_eq}
+use Rattle.std.proofs.lemmas.Bool.{cases_lt}
 use Rattle.std.proofs.lemmas.Option.{same_Some, none-some}
 use Rattle.std.proofs.Math.Seq.{drop-append_seam}
 use Rattle.shelf.specs.Picks.{EndsBy, byte_by, IsPicked, ArePicked, AreBytes, HavePicks}
-use Rattle.shelf.specs.Stored.{Stored, IsLeft, OneEach, texts_in, images_in}
+use Rattle.shelf.specs.Stored.{Stored, IsLeft, OneEach, images_in}
 use Rattle.shelf.proofs.ImageLemmas.{same_list}
 use Rattle.shelf.proofs.PastLemmas.{find_name}
 use Rattle.shelf.proofs.PickLemmas.{pair_before}
@@ -26,7 +26,6 @@ twice k = omega arith
 
 twice_more : (k : ℕ) → 2 * suc k + 1 ≡ suc (suc (2 * k + 1))
 twice_more k = omega arith
-
 
 firsts : (n : ℕ) (c rest : List ℕ) (k : ℕ) → k < length c → k < n → get_or (own n c ++ rest) (2 * k) 0 ≡ 2
 firsts zero c rest k in_c in_n = absurd (omega (arith, in_n))
@@ -104,7 +103,6 @@ one_choice file picks c d pc pd = elim (cases_lt (length c) (length d)) [
 
 -- ---- all files
 
-
 picked_as : (file : Stored) (files : List Stored) (image : List ℕ → List ℕ) (rest : List ℕ) → IsLeft file.left (image file.name)
     → ((now : List Stored) → ArePicked files rest now → (k : ℕ) (g : Stored) → slice_get now k ≡ Some g → g.text ≡ image g.name)
     → (now : List Stored) → ArePicked (file ∷ files) (own (length file.left.touched) (image file.name) ++ rest) now → (k : ℕ) (g : Stored) → slice_get now k ≡ Some g → g.text ≡ image g.name
@@ -128,8 +126,7 @@ find_picks : (files : List Stored) (image : List ℕ → List ℕ) → ((n : Lis
     → (picks : List ℕ) × AreBytes picks × ((now : List Stored) → ArePicked files picks now → (k : ℕ) (g : Stored) → slice_get now k ≡ Some g → g.text ≡ image g.name)
 find_picks [] image bytes left = ([], λ k lt. absurd (omega (arith, lt)), nothing_picked image)
 find_picks (f ∷ files) image bytes left =
-    let rest = find_picks files image bytes (λ k g e. left (suc k) g e) in
-    (
+    let rest = find_picks files image bytes (λ k g e. left (suc k) g e) in (
       own (length f.left.touched) (image f.name) ++ rest.0,
       own_bytes (length f.left.touched) (image f.name) rest.0 (bytes f.name) rest.1,
       picked_as f files image rest.0 (left 0 f refl) rest.2,
@@ -152,8 +149,7 @@ no_file files picks now are n c (inr r) none = r.1
 
 pub have_picks : HavePicks
 have_picks files each image images bytes =
-    let found = find_picks files image bytes (own_image files each image images) in
-    (
+    let found = find_picks files image bytes (own_image files each image images) in (
       found.0,
       found.1,
       λ now are n. elim (find_name now n) [

@@ -1,7 +1,7 @@
 -- What a crash may leave of a file, after a write, a cut or a sync: exactly what the step makes of what it might have left before.
 use Rattle.std.proofs.Common.{◌≡◌, ◌+◌, ◌<◌, ◌≤◌, ◌⊎◌, ℕ, zero, suc, Bool, true, false, List, [], ◌∷◌, length, take, get_or, max, min, inl, inr, refl, sym, ap, ◌∙◌, subst, arith, length-take}
 use Rattle.std.proofs.lemmas.Bool.{cases_lt, false≢true}
-use Rattle.std.proofs.lemmas.List.{get_or-take, get_or_past}
+use Rattle.std.proofs.lemmas.List.{get_or-take}
 use Rattle.shelf.specs.Disk.{Written, Torn, Cut, Trimmed, Follows}
 use Rattle.shelf.specs.Stored.{Left, Stored, IsLeft, IsTouched, IsOpened, IsSettled, IsSound}
 
@@ -78,8 +78,7 @@ pub touched_back : (at count : ℕ) (was is : Stored) → IsSound was → at ≤
 touched_back at count was is sound begins t = λ c left.
     let f = range_before at count was.left.synced c in
     let n = min (length c) (length was.left.touched) in
-    let long : length (table f n) ≡ n = length_table f n in
-    (
+    let long : length (table f n) ≡ n = length_table f n in (
       table f n,
       record {
         no_shorter = omega (arith, long, left.no_shorter, t.shortest, sound.reads.no_shorter, sound.reads.no_longer);
@@ -127,8 +126,7 @@ cut_back size was is sound e = λ c left.
     let shortest : is.left.shortest ≡ min was.left.shortest size = ap (λ l. l.shortest) e in
     let f = joined (λ k. get_or c k 0) (λ k. get_or was.left.synced k 0) (length c) in
     let n = max (length c) was.left.shortest in
-    let long : length (table f n) ≡ n = length_table f n in
-    (
+    let long : length (table f n) ≡ n = length_table f n in (
       table f n,
       record {
         no_shorter = omega (arith, long);
@@ -171,8 +169,7 @@ pub opened_back : (size : ℕ) (was is : Stored) → IsSound was → IsOpened si
 opened_back size was is sound o = λ c left.
     let f = front_before size was.left.synced c in
     let n = max (length c) was.left.shortest in
-    let long : length (table f n) ≡ n = length_table f n in
-    (
+    let long : length (table f n) ≡ n = length_table f n in (
       table f n,
       record {
         no_shorter = omega (arith, long);

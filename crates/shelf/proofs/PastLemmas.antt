@@ -1,10 +1,10 @@
 -- The moments of a shelf in memory: the present one, and those before it.
-use Rattle.std.proofs.Common.{◌≡◌, ◌+◌, ◌<◌, ◌≤◌, ◌⊎◌, ℕ, zero, suc, Bool, true, false, List, [], ◌∷◌, length, Option, Some, None, if◌then◌else◌, nat_eq, inl, inr, refl, sym, ap, ◌∙◌, subst, arith}
+use Rattle.std.proofs.Common.{◌≡◌, ◌<◌, ◌≤◌, ◌⊎◌, ℕ, zero, suc, List, [], ◌∷◌, length, Some, if◌then◌else◌, inl, inr, refl, sym, ap, ◌∙◌, subst, arith}
 use Rattle.std.specs.List.{slice_get}
 use Rattle.std.specs.Option.{IsSomeAnd}
 use Rattle.std.proofs.lemmas.Bool.{cases_eq, cases_lt, ne_eqb}
 use Rattle.std.proofs.lemmas.Option.{same_Some, none-some}
-use Rattle.shelf.specs.Disk.{Contents, Becomes, Follows, SameContents, SameOthers, Within}
+use Rattle.shelf.specs.Disk.{Becomes, Follows, SameContents, SameOthers, Within}
 use Rattle.shelf.specs.Moments.{Passes}
 use Rattle.shelf.specs.Past.{files_at, images_at, AllSound}
 use Rattle.shelf.specs.Reads.{now_files, reads_one}

@@ -1,13 +1,13 @@
 -- What picks leave is one of the images, and each image has its picks.
-use Rattle.std.proofs.Common.{◌≡◌, ◌≢◌, ◌+◌, ◌*◌, ◌<◌, ◌≤◌, ◌⊎◌, ℕ, zero, suc, Bool, true, false, List, [], ◌∷◌, ◌++◌, length, take, drop, get_or, Option, Some, None, if◌then◌else◌, inl, inr, refl, sym, ap, ◌∙◌, subst, arith, append-nil}
+use Rattle.std.proofs.Common.{◌≡◌, ◌+◌, ◌*◌, ◌<◌, ◌≤◌, ℕ, zero, suc, false, List, [], ◌∷◌, ◌++◌, length, take, drop, get_or, Option, Some, None, if◌then◌else◌, inl, inr, refl, sym, ap, ◌∙◌, subst, arith, append-nil}
 use Rattle.std.specs.List.{slice_get}
 use Rattle.std.specs.Option.{option_and_then}
-use Rattle.std.proofs.lemmas.Bool.{cases_lt, cases_eq, false≢true}
+use Rattle.std.proofs.lemmas.Bool.{cases_lt}
 use Rattle.std.proofs.lemmas.List.{drop_all, take_all, drop_more}
 use Rattle.std.proofs.lemmas.Option.{same_Some, none-some, slice_get_read}
 use Rattle.shelf.specs.Disk.{Held, SameContents}
-use Rattle.shelf.specs.Picks.{EndsBy, byte_by, IsPicked, IsPickedFile, ArePicked, AreBytes, HavePicks}
-use Rattle.shelf.specs.Stored.{Stored, IsLeft, IsSound, AreSound, OneEach, IsAbsent, Shows, texts_in, images_in, slot_of, slots_in}
+use Rattle.shelf.specs.Picks.{byte_by, IsPicked, IsPickedFile, ArePicked}
+use Rattle.shelf.specs.Stored.{Stored, IsLeft, IsSound, AreSound, OneEach, IsAbsent, texts_in, images_in, slot_of, slots_in}
 use Rattle.shelf.proofs.ImageLemmas.{settled_alone, sound_settled}
 use Rattle.shelf.proofs.PastLemmas.{find_name}
 

@@ -1,11 +1,10 @@
 -- What a shelf in memory shows, and which of its calls fails.
-use Rattle.std.specs.Prelude.{ℕ, ◌≡◌, ◌≤◌, ◌⊎◌, Bool, List, ◌∷◌, length, Some}
+use Rattle.std.specs.Prelude.{ℕ, ◌≡◌, List, ◌∷◌, length}
 use Rattle.shelf.specs.declared.mem_shelf.MemShelf.{MemShelf}
 use Rattle.shelf.specs.declared.turns.Turns.{Turns}
 use Rattle.shelf.specs.Disk.{Contents, Images, Slots}
-use Rattle.shelf.specs.Past.{files_at, images_at, past_of}
+use Rattle.shelf.specs.Past.{images_at, past_of}
 use Rattle.shelf.specs.Stored.{Stored, images_in, slots_in, texts_in}
-use Rattle.shelf.specs.Turns.{TakesTurn}
 
 abbrev pub files_of : MemShelf → List Stored
 files_of shelf = shelf.files.items

@@ -3,7 +3,6 @@
 -- gives; 3, the file ends here; any other, the byte is the second pick. A place that wasn't written since the last sync keeps its
 -- byte, and the file ends only where it may.
 use Rattle.std.specs.Prelude.{ℕ, ◌+◌, ◌*◌, ◌<◌, ◌≤◌, ◌≡◌, ◌⊎◌, ◌==◌, ◌^◌, Bool, true, false, if◌then◌else◌, List, [], ◌∷◌, length, drop, slice_index, slice_index_or}
-use Rattle.shelf.specs.Disk.{Contents}
 use Rattle.shelf.specs.Stored.{Stored, IsSettled, OneEach, images_in, texts_in}
 
 -- by this pick a file of these lengths ends at a place: its least length, its length at the last sync, and its length now

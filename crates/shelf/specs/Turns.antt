@@ -1,5 +1,5 @@
 -- Which calls of a shelf in memory fail.
-use Rattle.std.specs.Prelude.{ℕ, ◌≡◌, ◌+◌, ◌-◌, ◌^◌, min, ◌↔◌, ◌⊎◌, Bool, Some, option_map, if◌then◌else◌}
+use Rattle.std.specs.Prelude.{◌≡◌, ◌+◌, ◌-◌, ◌^◌, min, ◌↔◌, ◌⊎◌, Bool, Some, option_map, if◌then◌else◌}
 use Rattle.shelf.specs.declared.turns.Turns.{Turns}
 
 -- this call is the one that was named, or comes after the last change that was let through

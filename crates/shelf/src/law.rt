@@ -5,5 +5,4 @@ ghost use Rattle.shelf.specs.Picks.{HavePicks};
 /// that a crash may leave.
 pub fn every_image_has_picks()
     ensures { HavePicks }
-{
-}
+{}

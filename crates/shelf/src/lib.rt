@@ -12,9 +12,9 @@ mod mem_sink;
 mod past;
 mod sink;
 mod std_sink;
-mod turns;
 #[cfg(test)]
 mod tests;
+mod turns;
 
 pub use disk::{HoldFail, Shelf};
 pub use folder_shelf::FolderShelf;

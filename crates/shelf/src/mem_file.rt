@@ -138,8 +138,9 @@ impl MemFile {
     pub(crate) fn cut(&mut self, size: u64)
         requires { size ≤ length self.old.text }
         ensures cut { self.new ≡ record self.old {
-            text = take size self.old.text;
-            left = record self.old.left { shortest = min self.old.left.shortest size } } }
+          text = take size self.old.text;
+          left = record self.old.left { shortest = min self.old.left.shortest size };
+        } }
     {
         self.len = size as usize;
         self.shortest = self.shortest.min(self.len);
@@ -256,8 +257,7 @@ fn pick(picks: &[u8], number: usize) -> u8
 fn ends_by(shortest: usize, synced: usize, now: usize, pick: u8, place: usize) -> bool
     ensures { MatchBool result (EndsBy shortest synced now pick place) (¬ EndsBy shortest synced now pick place) }
 {
-    shortest <= place
-        && (pick == 0 && synced <= place || pick == 1 && now <= place || pick == 3)
+    shortest <= place && (pick == 0 && synced <= place || pick == 1 && now <= place || pick == 3)
 }
 
 /// Where the file ends by the picks, at its greatest length at the latest.
@@ -299,11 +299,7 @@ fn read_at(buffer: &Vec<u8>, place: usize, len: usize) -> u8
     requires { place < vec_len buffer.now }
     ensures { result ≡ slice_index (take len buffer.now.items) place }
 {
-    if place < len {
-        buffer[place]
-    } else {
-        0
-    }
+    if place < len { buffer[place] } else { 0 }
 }
 
 /// Puts the bytes that the picks choose into the front of the buffer.

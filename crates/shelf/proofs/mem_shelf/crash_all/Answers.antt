@@ -1,5 +1,4 @@
-use Rattle.std.proofs.Common.{◌≡◌, ◌<◌, length, arith}
-use Rattle.shelf.specs.Picks.{ArePicked}
+use Rattle.std.proofs.Common.{◌<◌, length, arith}
 use Rattle.shelf.proofs.PickLemmas.{next_file, all_picked, one_each_of, sound_picked}
 use Rattle.shelf.proofs.mem_shelf.crash_all.Goals as goal
 

@@ -1,5 +1,5 @@
 -- What comes of the files that are left comes of all of them.
-use Rattle.std.proofs.Common.{◌≡◌, List, ◌++◌, length, take, drop, vec_len}
+use Rattle.std.proofs.Common.{◌≡◌, List, ◌++◌, length, take, drop}
 use Rattle.shelf.specs.Picks.{ArePicked}
 use Rattle.shelf.specs.Stored.{Stored}
 use Rattle.shelf.proofs.mem_shelf.crash_all.Given as goal

@@ -1,8 +1,7 @@
-use Rattle.std.proofs.Common.{◌≡◌, ◌≤◌, ℕ, List, length, take, refl, sym, ap, ◌∙◌, subst}
-use Rattle.shelf.specs.Disk.{Written, Torn, Cut, Shortened, Trimmed, name_at}
-use Rattle.shelf.specs.Stored.{Stored, Left, IsLeft, texts_in, slots_in}
-use Rattle.shelf.proofs.ImageLemmas.{touched_back, touched_forth, sound_written, sound_torn, cut_back, cut_forth, sound_cut, opened_back, opened_forth, sound_frayed, settled_alone, settled_left, sound_settled}
-use Rattle.shelf.proofs.ShelfLemmas.{Rewrites, changed, text_at, text_stays, slot_reads, slot_reads_alone, sound_of, held_most}
+use Rattle.std.proofs.Common.{length}
+use Rattle.shelf.specs.Disk.{Written, Torn}
+use Rattle.shelf.proofs.ImageLemmas.{touched_back, touched_forth, sound_written}
+use Rattle.shelf.proofs.ShelfLemmas.{Rewrites, changed, text_at, slot_reads, sound_of}
 use Rattle.shelf.proofs.mem_shelf.write_in.Goals as goal
 
 pub returns-clause-written : goal.returns-clause-written

@@ -1,5 +1,5 @@
 use Rattle.shelf.specs.Past.{past_of}
-use Rattle.shelf.proofs.PastLemmas.{same_now, still, sound_now, sound_still}
+use Rattle.shelf.proofs.PastLemmas.{sound_now, sound_still}
 use Rattle.shelf.proofs.mem_shelf.MemShelfShelf.hold.Goals as goal
 
 pub invariant_of-self-2 : goal.invariant_of-self-2

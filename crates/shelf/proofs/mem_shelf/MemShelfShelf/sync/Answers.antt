@@ -1,9 +1,7 @@
-use Rattle.std.proofs.Common.{◌≡◌, ◌∷◌, List, length, refl, sym, ap, subst, Some}
-use Rattle.shelf.specs.Disk.{Torn, Cut, Shortened, Trimmed, Written, Becomes, Stay, SameContents, SameOthers, Tells, name_at}
+use Rattle.std.proofs.Common.{Some}
+use Rattle.shelf.specs.Disk.{name_at}
 use Rattle.shelf.specs.Past.{past_of}
-use Rattle.shelf.specs.Stored.{slots_in, texts_in, images_in}
-use Rattle.shelf.proofs.FileLemmas.{torn_not_at_all, trimmed_not_at_all, torn_by_write, trimmed_by_cut}
-use Rattle.shelf.proofs.ImageLemmas.{trimmed_of_cut}
+use Rattle.shelf.specs.Stored.{slots_in, texts_in}
 use Rattle.shelf.proofs.PastLemmas.{same_now, within_now, passes, sound_now, sound_passes, synced_back}
 use Rattle.shelf.proofs.mem_shelf.MemShelfShelf.sync.Goals as goal
 
