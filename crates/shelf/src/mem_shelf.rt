@@ -49,6 +49,9 @@ impl MemShelf {
     pub fn fail_on(&mut self, call: u64)
         ensures turns { turns_of self.new ≡ record (turns_of self.old) { countdown = call } }
         ensures files { told_by self.new ≡ told_by self.old }
+        ensures slots { SameSlots (slots_of self.old) (slots_of self.new) }
+        ensures contents { SameContents (held_by self.old) (held_by self.new) }
+        ensures tells { Tells (held_by self.old) (held_by self.new) }
     {
         self.turns.countdown = call;
     }
@@ -58,6 +61,9 @@ impl MemShelf {
     pub fn stop_after(&mut self, changes: u64)
         ensures turns { turns_of self.new ≡ record (turns_of self.old) { changes_left = Some changes } }
         ensures files { told_by self.new ≡ told_by self.old }
+        ensures slots { SameSlots (slots_of self.old) (slots_of self.new) }
+        ensures contents { SameContents (held_by self.old) (held_by self.new) }
+        ensures tells { Tells (held_by self.old) (held_by self.new) }
     {
         self.turns.changes_left = Some(changes);
     }
