@@ -133,8 +133,8 @@ fn counted<T>(answer: io::Result<T>, failures: &mut u64) -> Result<T, Failed>
     }
 }
 
-/// Opens the file for reading and writing, and makes it where it isn't there. A name that isn't
-/// UTF-8 fails.
+/// Opens the file for reading and writing, and makes it where it isn't there; then syncs its folder,
+/// so that the name outlives a crash. A name that isn't UTF-8 fails.
 fn open_file<R: Files>(rt: &R, name: &[u8]) -> Result<R::File, Failed> {
     let Ok(path) = str::from_utf8(name) else {
         return Err(Failed);
@@ -144,10 +144,27 @@ fn open_file<R: Files>(rt: &R, name: &[u8]) -> Result<R::File, Failed> {
         .write(true)
         .create(true)
         .open(rt, path);
-    match opened {
-        Ok(file) => Ok(file),
+    let Ok(file) = opened else {
+        return Err(Failed);
+    };
+    match sync_folder(rt, folder_of(path)) {
+        Ok(()) => Ok(file),
         Err(_) => Err(Failed),
     }
+}
+
+/// The folder that a file is in.
+fn folder_of(path: &str) -> &str {
+    match path.rsplit_once('/') {
+        None => ".",
+        Some(("", _)) => "/",
+        Some((folder, _)) => folder,
+    }
+}
+
+fn sync_folder<R: Files>(rt: &R, folder: &str) -> io::Result<()> {
+    let folder = OpenOptions::new().read(true).open(rt, folder)?;
+    folder.sync_all()
 }
 
 fn length_of<F: OpenFile>(file: &F) -> io::Result<u64> {
