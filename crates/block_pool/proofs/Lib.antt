@@ -1,0 +1,10 @@
+pub mod Totals
+pub mod Worlds
+pub mod Draws
+pub mod Turns
+pub mod Pens
+pub mod Marks
+pub mod Parts
+pub mod Allowed
+pub mod Marking
+pub mod Ends
