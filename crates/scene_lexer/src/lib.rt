@@ -12,10 +12,12 @@ mod scan;
 pub mod sign;
 mod text;
 mod token;
+mod value;
 
 pub use lexer::lex;
 pub use name::Name;
 pub use token::{Kind, LexFault, Place, Token};
+pub use value::number_value;
 
 #[cfg(test)]
 mod tests;

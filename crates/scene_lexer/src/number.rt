@@ -8,6 +8,7 @@ ghost use Rattle.scene_lexer.specs.Spellings.{digit_count, fraction_length, is_n
 ghost use Rattle.scene_lexer.specs.Tokens.{number_of, decimal_from, scaled, whole_digits};
 ghost use Rattle.scene_lexer.specs.Tokens.{size_up, size_down};
 ghost use Rattle.scene_lexer.specs.Steps.{IsScalable};
+ghost use Rattle.scene_lexer.specs.Alone.{value_of};
 
 use crate::scan::{digit_count, exponent_length, fraction_length, rest_of, sign_length};
 use crate::{Kind, LexFault, Place};
@@ -149,9 +150,9 @@ fn exponent_of(part: &[u8]) -> (u32, u32)
     }
 }
 
-/// What a number means.
-pub fn number_of(number: &[u8], place: Place) -> Result<Kind, LexFault>
-    ensures { result ≡ number_of place number.now }
+/// The value of a number; none where it is out of range.
+pub fn value_of(number: &[u8]) -> Option<Fix>
+    ensures { result ≡ value_of number.now }
 {
     let whole = leading_digits(number);
     let behind = rest_of(number, whole.len());
@@ -159,11 +160,21 @@ pub fn number_of(number: &[u8], place: Place) -> Result<Kind, LexFault>
     let end = rest_of(behind, fraction_length(behind));
     let part = rest_of(end, end.len().min(1));
     if whole.len() + fraction.len() > MOST_DIGITS {
-        return Err(LexFault::NumberRange(place));
+        return None;
     }
     let units = decimal_from(decimal_from(0, whole), fraction);
     let (up, down) = exponent_of(part);
     match scaled(units, up, down + fraction.len() as u32) {
+        Some(value) => Some(value),
+        None => None,
+    }
+}
+
+/// What a number means.
+pub fn number_of(number: &[u8], place: Place) -> Result<Kind, LexFault>
+    ensures { result ≡ number_of place number.now }
+{
+    match value_of(number) {
         Some(value) => Ok(Kind::Number(value)),
         None => Err(LexFault::NumberRange(place)),
     }

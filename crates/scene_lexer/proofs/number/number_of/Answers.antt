@@ -1,51 +1,34 @@
--- What each way out means, and the room for the digits.
-use Rattle.std.proofs.Common.{length, arith, ap, ◌∙◌, sym, min}
-use Rattle.scene_lexer.specs.Tokens.{decimal_from, size_up, size_down}
-use Rattle.scene_lexer.proofs.NumberLemmas.{number_of-long, number_of-scalable, number_of-over, room_first, room_second, fraction-is, part-is}
+-- A number as a token, from its value.
+use Rattle.std.proofs.Common.{◌≡◌, ℕ, ℤ, List, Option, Some, None, Result, Ok, Err, Bool, true, false, cond, refl}
+use Rattle.scene_lexer.specs.Alone.{start, value_in, value_of}
+use Rattle.scene_lexer.specs.Tokens.{number_of, is_out_of_range, raw_of}
+use Rattle.scene_lexer.specs.declared.token.Kind.{Kind}
+use Rattle.scene_lexer.specs.declared.token.Kind.TheVariants.{Number}
+use Rattle.scene_lexer.specs.declared.token.LexFault.{LexFault}
+use Rattle.scene_lexer.specs.declared.token.LexFault.TheVariants.{NumberRange}
+use Rattle.scene_lexer.specs.declared.token.Place.{Place}
 use Rattle.scene_lexer.proofs.number.number_of.Goals as goal
 
-pub returns-then-whole-fraction-gt-MOST_DIGITS : goal.returns-then-whole-fraction-gt-MOST_DIGITS
-returns-then-whole-fraction-gt-MOST_DIGITS c =
-    let fraction = fraction-is c.args.number.now _ _ _ c.rest_of-behind.ensures c.leading_digits-whole.ensures.count c.fraction_digits-fraction.ensures.value in
-    sym (number_of-long c.args.place c.args.number.now _ _ c.leading_digits-whole.ensures.value fraction (omega arith))
+abbrev token_of : Place → Option ℤ → Result Kind LexFault
+token_of place (Some value) = Ok (Number value)
+token_of place None = Err (NumberRange place)
 
-pub decimal_from-requires-clause-small : goal.decimal_from-requires-clause-small
-decimal_from-requires-clause-small c =
-    room_first (length c.leading_digits-whole.result.now) (length c.fraction_digits-fraction.result.now) (omega arith)
+by_range : (place : Place) (out : Bool) (raw : ℤ) → token_of place (value_in (cond out (Err (NumberRange start)) (Ok (Number raw)))) ≡ cond out (Err (NumberRange place)) (Ok (Number raw))
+by_range place true raw = refl
+by_range place false raw = refl
 
-pub decimal_from-units-requires-clause-small : goal.decimal_from-units-requires-clause-small
-decimal_from-units-requires-clause-small c =
-    room_second c.decimal_from.result (length c.leading_digits-whole.result.now) (length c.fraction_digits-fraction.result.now) (omega arith) c.decimal_from.ensures.small
+token-is : (place : Place) (s : List ℕ) → token_of place (value_of s) ≡ number_of place s
+unfolding number_of
+token-is place s = by_range place (is_out_of_range s) (raw_of s)
 
-pub scaled-requires : goal.scaled-requires
-scaled-requires c =
-    let room = room_second c.decimal_from.result (length c.leading_digits-whole.result.now) (length c.fraction_digits-fraction.result.now) (omega arith) c.decimal_from.ensures.small in
-    record { units = omega (arith, c.decimal_from-units.ensures.small) }
+some-is : (place : Place) (s : List ℕ) (value : ℤ) → Some value ≡ value_of s → Ok (Number value) ≡ number_of place s
+some-is place s value is = let e = token-is place s in cc
+
+none-is : (place : Place) (s : List ℕ) → None ≡ value_of s → Err (NumberRange place) ≡ number_of place s
+none-is place s is = let e = token-is place s in cc
 
 pub returns-in-Some : goal.returns-in-Some
-returns-in-Some c =
-    let s = c.args.number.now in
-    let fraction = fraction-is s _ _ _ c.rest_of-behind.ensures c.leading_digits-whole.ensures.count c.fraction_digits-fraction.ensures.value in
-    let part = part-is s _ _ _ _ _ _ c.rest_of-behind.ensures c.leading_digits-whole.ensures.count c.rest_of-end.ensures c.fraction_length.ensures.length c.rest_of-part.ensures c.min.ensures in
-    sym (number_of-scalable c.args.place s _ _ c.decimal_from-units.result c.exponent_of-up.result.0 c.exponent_of-up.result.1 c.in-Some.value
-    (record {
-      whole = c.leading_digits-whole.ensures.value;
-      fraction = fraction;
-      units = c.decimal_from-units.ensures.value ∙ ap (λ n. decimal_from n c.fraction_digits-fraction.result.now) c.decimal_from.ensures.value;
-    })
-    (omega arith) (c.exponent_of-up.ensures.up ∙ ap (λ p. min 100 (size_up p)) part) (c.exponent_of-up.ensures.down ∙ ap (λ p. min 100 (size_down p)) part)
-    c.in-Some.ensures.0 c.in-Some.ensures.1)
+returns-in-Some c = some-is c.args.place c.args.number.now c.in-Some.value c.in-Some.ensures
 
 pub returns-in-None : goal.returns-in-None
-returns-in-None c =
-    let s = c.args.number.now in
-    let fraction = fraction-is s _ _ _ c.rest_of-behind.ensures c.leading_digits-whole.ensures.count c.fraction_digits-fraction.ensures.value in
-    let part = part-is s _ _ _ _ _ _ c.rest_of-behind.ensures c.leading_digits-whole.ensures.count c.rest_of-end.ensures c.fraction_length.ensures.length c.rest_of-part.ensures c.min.ensures in
-    sym (number_of-over c.args.place s _ _ c.decimal_from-units.result c.exponent_of-up.result.0 c.exponent_of-up.result.1
-    (record {
-      whole = c.leading_digits-whole.ensures.value;
-      fraction = fraction;
-      units = c.decimal_from-units.ensures.value ∙ ap (λ n. decimal_from n c.fraction_digits-fraction.result.now) c.decimal_from.ensures.value;
-    })
-    (omega arith) (c.exponent_of-up.ensures.up ∙ ap (λ p. min 100 (size_up p)) part) (c.exponent_of-up.ensures.down ∙ ap (λ p. min 100 (size_down p)) part)
-    (λ h. c.in-None.ensures h))
+returns-in-None c = none-is c.args.place c.args.number.now c.in-None.ensures
