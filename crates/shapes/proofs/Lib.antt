@@ -2,3 +2,11 @@ pub mod Quotients
 pub mod Bent
 pub mod Slabs
 pub mod World
+pub mod Aimed
+pub mod WideLemmas
+pub mod PartsLemmas
+pub mod Squares
+pub mod Told
+pub mod Terms
+pub mod MakingLemmas
+pub mod Rooms

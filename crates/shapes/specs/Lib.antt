@@ -3,3 +3,8 @@ pub mod Spheres
 pub mod Rows
 pub mod Lines
 pub mod Bends
+pub mod Aims
+pub mod Faces
+pub mod Bodies
+pub mod Curves
+pub mod Solids

@@ -1,18 +1,24 @@
 // Numbers that fall and then rise along a ray: where they are small.
 ghost use Rattle.std.specs.Prelude.{◌≡◌, ◌↔◌, ℕ, ℤ, pos, ◌<◌, ◌≤◌, ◌^◌, ◌≤ℤ◌, unsigned_abs};
-ghost use Rattle.shapes.specs.Bends.{IsConvex};
+ghost use Rattle.shapes.specs.Bends.{IsConvex, HasBend};
 
 use crate::search::{Test, first};
 use crate::span::Span;
 
-/// A number for each whole number.
+/// A number for each whole number, whose steps change evenly. It is asked for only where it is small.
 pub trait Curve {
     ghost value: { Self → ℕ → ℤ };
 
+    ghost can_eval: { Self → ℕ → Type 0 };
+
+    ghost bend: { Self → ℤ };
+
     fn at(&self, t: u64) -> i128
-        requires { t < 2 ^ 32 }
+        requires { can_eval self.now t }
         ensures value { result ≡ value self.now t }
         ensures small { unsigned_abs result < 2 ^ 126 };
+
+    ghost bends: { (curve : Self) → HasBend (value curve) (bend curve) };
 }
 
 /// Whether a curve doesn't fall from t to t + 1.
@@ -23,16 +29,16 @@ struct Climbs<'a, C> {
 
 /// Whether a curve is at most a limit.
 #[derive(Clone, Copy)]
-struct AtMost<'a, C> {
-    curve: &'a C,
-    limit: i128,
+pub struct AtMost<'a, C> {
+    pub curve: &'a C,
+    pub limit: i128,
 }
 
 /// Whether a curve is above a limit.
 #[derive(Clone, Copy)]
-struct Above<'a, C> {
-    curve: &'a C,
-    limit: i128,
+pub struct Above<'a, C> {
+    pub curve: &'a C,
+    pub limit: i128,
 }
 
 impl<'a, C: Curve> Test for Climbs<'a, C> {
@@ -40,7 +46,7 @@ impl<'a, C: Curve> Test for Climbs<'a, C> {
 
     ghost answer = { λ test t. int_le (C.value test.curve.now t) (C.value test.curve.now (t + 1)) };
 
-    ghost can_ask = { λ _ t. t + 1 < 2 ^ 32 };
+    ghost can_ask = { λ test t. (t + 1 < 2 ^ 64) × C.can_eval test.curve.now t × C.can_eval test.curve.now (t + 1) };
 
     #[inline]
     fn ask(&self, t: u64) -> bool {
@@ -49,11 +55,11 @@ impl<'a, C: Curve> Test for Climbs<'a, C> {
 }
 
 impl<'a, C: Curve> Test for AtMost<'a, C> {
-    ghost use Rattle.std.specs.Prelude.{◌+◌, ◌<◌, ◌^◌, int_le};
+    ghost use Rattle.std.specs.Prelude.{int_le};
 
     ghost answer = { λ test t. int_le (C.value test.curve.now t) test.limit };
 
-    ghost can_ask = { λ _ t. t < 2 ^ 32 };
+    ghost can_ask = { λ test t. C.can_eval test.curve.now t };
 
     #[inline]
     fn ask(&self, t: u64) -> bool {
@@ -62,11 +68,11 @@ impl<'a, C: Curve> Test for AtMost<'a, C> {
 }
 
 impl<'a, C: Curve> Test for Above<'a, C> {
-    ghost use Rattle.std.specs.Prelude.{◌+◌, ◌<◌, ◌^◌, int_lt};
+    ghost use Rattle.std.specs.Prelude.{int_lt};
 
     ghost answer = { λ test t. int_lt test.limit (C.value test.curve.now t) };
 
-    ghost can_ask = { λ _ t. t < 2 ^ 32 };
+    ghost can_ask = { λ test t. C.can_eval test.curve.now t };
 
     #[inline]
     fn ask(&self, t: u64) -> bool {
@@ -79,7 +85,7 @@ ghost use Rattle.shapes.specs.Lines.{IsWithin};
 /// The numbers of the span at which a curve whose steps grow is at most the limit.
 pub fn valley<C: Curve>(curve: &C, limit: i128, span: Span) -> Span
     requires opens { IsConvex (C.value curve.now) }
-    requires near { (t : ℕ) → IsWithin span t → t < 2 ^ 31 }
+    requires near { (t : ℕ) → IsWithin span t → C.can_eval curve.now t }
     ensures { (t : ℕ) → IsWithin result t ↔ (IsWithin span t × (C.value curve.now t ≤ℤ limit)) }
 {
     if span.from >= span.end {
@@ -89,4 +95,28 @@ pub fn valley<C: Curve>(curve: &C, limit: i128, span: Span) -> Span
     let from = first(&AtMost { curve, limit }, span.from, turn);
     let end = first(&Above { curve, limit }, turn, span.end);
     Span { from, end }
+}
+
+/// A curve with the signs of its values turned.
+#[derive(Clone, Copy)]
+pub struct Turned<'a, C> {
+    pub curve: &'a C,
+}
+
+impl<'a, C: Curve> Curve for Turned<'a, C> {
+    ghost use Rattle.std.specs.Prelude.{pos, ◌-ℤ◌};
+    ghost use Rattle.shapes.specs.Bends.{HasBend-neg};
+
+    ghost value = { λ turned t. pos 0 -ℤ C.value turned.curve.now t };
+
+    ghost can_eval = { λ turned t. C.can_eval turned.curve.now t };
+
+    ghost bend = { λ turned. pos 0 -ℤ C.bend turned.curve.now };
+
+    ghost bends = { λ turned. HasBend-neg (C.value turned.curve.now) (C.bend turned.curve.now) (C.bends turned.curve.now) };
+
+    #[inline]
+    fn at(&self, t: u64) -> i128 {
+        -self.curve.at(t)
+    }
 }

@@ -2,10 +2,13 @@
 ghost use Rattle.std.specs.Prelude.{◌≡◌, ◌↔◌, ℕ, pos, ◌<◌, ◌≤◌, ◌^◌, ◌+ℤ◌, ◌*ℤ◌, ◌≤ℤ◌, IfSome, IsSome, unsigned_abs};
 ghost use Rattle.shapes.specs.Spheres.{IsSphere};
 
-use crate::curve::{Curve, valley};
+use crate::aim::{Side, approach, excess, guess, is_away};
+use crate::curve::Curve;
+use crate::near::valley_near;
 use crate::path::{Path, is_near};
 use crate::ranges::Ranges;
 use crate::ray::Ray;
+use crate::sight::Sight;
 use crate::span::{Line, Span};
 use crate::volume::Volume;
 use fix_math::{Fix, V3};
@@ -16,17 +19,6 @@ pub struct Sphere {
     pub centre: V3,
     pub radius: Fix,
     ghost valid: { IsSphere centre radius },
-}
-
-/// How far a ray's points are from a centre along the axes.
-#[derive(Clone, Copy)]
-struct Distance {
-    x: Line,
-    y: Line,
-    z: Line,
-    ghost x_small: { unsigned_abs x.at ≤ 2 ^ 45 },
-    ghost y_small: { unsigned_abs y.at ≤ 2 ^ 45 },
-    ghost z_small: { unsigned_abs z.at ≤ 2 ^ 45 },
 }
 
 /// The square of a distance.
@@ -63,10 +55,17 @@ fn sum(x: Square, y: Square, z: Square) -> i128
     x.value + y.value + z.value
 }
 
-impl Curve for Distance {
-    ghost use Rattle.shapes.specs.Lines.{square_distance_at};
+impl Curve for Sight {
+    ghost use Rattle.std.specs.Prelude.{◌+ℤ◌, ◌*ℤ◌, ◌<◌, ◌^◌};
+    ghost use Rattle.shapes.specs.Lines.{square_distance_at, square_distance-bends};
 
     ghost value = { λ d. square_distance_at d.x d.y d.z };
+
+    ghost can_eval = { λ d t. t < 2 ^ 32 };
+
+    ghost bend = { λ d. (d.x.step *ℤ d.x.step +ℤ d.x.step *ℤ d.x.step) +ℤ (d.y.step *ℤ d.y.step +ℤ d.y.step *ℤ d.y.step) +ℤ (d.z.step *ℤ d.z.step +ℤ d.z.step *ℤ d.z.step) };
+
+    ghost bends = { λ d. square_distance-bends d.x d.y d.z };
 
     #[inline]
     fn at(&self, t: u64) -> i128 {
@@ -74,25 +73,6 @@ impl Curve for Distance {
         let y = Square::of(self.y.value(t));
         let z = Square::of(self.z.value(t));
         sum(x, y, z)
-    }
-}
-
-impl Distance {
-    ghost use Rattle.shapes.specs.Lines.{IsWithin, value_at};
-
-    /// The numbers below `end` at which no coordinate is farther away than the radius.
-    fn boxed(&self, radius: i64, end: u64) -> Span
-        requires low { pos 0 ≤ℤ radius }
-        requires high { unsigned_abs radius ≤ 2 ^ 44 }
-        ensures { (t : ℕ) → IsWithin result t ↔ ((t < end)
-            × (unsigned_abs (value_at self.now.x t) ≤ unsigned_abs radius)
-            × (unsigned_abs (value_at self.now.y t) ≤ unsigned_abs radius)
-            × (unsigned_abs (value_at self.now.z t) ≤ unsigned_abs radius)) }
-    {
-        let whole = Span { from: 0, end };
-        let along_x = self.x.slab(radius, whole);
-        let along_y = self.y.slab(radius, along_x);
-        self.z.slab(radius, along_y)
     }
 }
 
@@ -127,7 +107,7 @@ impl Sphere {
 
     /// How far the path's points are from the centre.
     #[inline]
-    fn distance(&self, path: &Path) -> Distance
+    fn distance(&self, path: &Path) -> Sight
         ensures x { (t : ℕ) → value_at result.x t
             ≡ offset_from self.now.centre.x (point_at path.now.ray t).x }
         ensures y { (t : ℕ) → value_at result.y t
@@ -136,11 +116,59 @@ impl Sphere {
             ≡ offset_from self.now.centre.z (point_at path.now.ray t).z }
     {
         let Ray { origin, dir } = path.ray;
-        Distance {
+        Sight {
             x: Line::coordinate(origin.x, self.centre.x, dir.x),
             y: Line::coordinate(origin.y, self.centre.y, dir.y),
             z: Line::coordinate(origin.z, self.centre.z, dir.z),
         }
+    }
+}
+
+impl Sphere {
+    ghost use Rattle.shapes.specs.Rays.{point_at};
+    ghost use Rattle.shapes.specs.Spheres.{IsInSphere};
+    ghost use Rattle.shapes.specs.Lines.{IsWithin};
+    /// The numbers of the path in the sphere, from what shows that the ray's line is near.
+    #[inline(never)]
+    fn row_from_guess(&self, path: &Path, approach: i64, excess: i64) -> Span
+        requires approach_small { unsigned_abs approach ≤ 2 ^ 48 }
+        requires excess_small { unsigned_abs excess ≤ 2 ^ 61 }
+        ensures { (t : ℕ) → IsWithin result t
+            ↔ ((t < path.now.end) × IsInSphere self.now.centre self.now.radius (point_at path.now.ray t)) }
+    {
+        let distance = self.distance(path);
+        let radius = self.long_radius();
+        let (turn, half) = guess(approach, excess, path.aim.square, path.aim.inverse);
+        let whole = Span {
+            from: 0,
+            end: path.end,
+        };
+        valley_near(
+            &distance,
+            Square::of(radius).value,
+            whole,
+            turn,
+            turn.saturating_sub(half),
+            turn.saturating_add(half),
+        )
+    }
+
+    /// The numbers of the path in the sphere.
+    #[inline(always)]
+    pub fn row(&self, path: &Path) -> Span
+        ensures { (t : ℕ) → IsWithin result t
+            ↔ ((t < path.now.end) × IsInSphere self.now.centre self.now.radius (point_at path.now.ray t)) }
+    {
+        let Ray { origin, dir } = path.ray;
+        let x = Side::of(origin.x, self.centre.x);
+        let y = Side::of(origin.y, self.centre.y);
+        let z = Side::of(origin.z, self.centre.z);
+        let approach = approach(&x, &y, &z, &dir);
+        let excess = excess(&x, &y, &z, self.radius);
+        if is_away(approach, excess, path.aim.square) {
+            return Span { from: 0, end: 0 };
+        }
+        self.row_from_guess(path, approach, excess)
     }
 }
 
@@ -149,11 +177,9 @@ impl Volume for Sphere {
 
     ghost holds = { λ sphere. IsInSphere sphere.centre sphere.radius };
 
+    #[inline]
     fn ranges(&self, path: &Path) -> Ranges {
-        let distance = self.distance(path);
-        let radius = self.long_radius();
-        let span = distance.boxed(radius, path.end);
-        Ranges::of_span(valley(&distance, Square::of(radius).value, span))
+        Ranges::of_span(self.row(path))
     }
 }
 

@@ -1,0 +1,28 @@
+use Rattle.std.proofs.Common.{arith, ◌≡◌, ◌∙◌, ap, ℤ, ◌+ℤ◌, Bool}
+use Rattle.std.proofs.lemmas.Int.{ints}
+use Rattle.fix_math.specs.declared.fix.V3.{V3}
+use Rattle.shapes.specs.Faces.{seen_from, in_pipe, in_ball, in_taper}
+use Rattle.shapes.specs.Rays.{point_at}
+use Rattle.shapes.specs.Lines.{wide_at, sight_at}
+use Rattle.shapes.specs.Bodies.{form_at, own_of, taper_radius}
+use Rattle.shapes.proofs.Told.{ball_shell}
+use Rattle.shapes.proofs.globe.Globe.shell.Goals as goal
+
+pub slab-along_y-requires-clause-low : goal.slab-along_y-requires-clause-low
+slab-along_y-requires-clause-low c = λ t w. c.requires t ((c.slab-along_x.ensures t).0 w).0
+
+pub slab-along_z-requires-clause-low : goal.slab-along_z-requires-clause-low
+slab-along_z-requires-clause-low c = λ t w. let b = (c.slab-along_y.ensures t).0 w in c.requires t ((c.slab-along_x.ensures t).0 b.0).0
+
+pub parts-requires-clause-low : goal.parts-requires-clause-low
+parts-requires-clause-low c = λ t w. let d = (c.slab-along_z.ensures t).0 w in let b = (c.slab-along_y.ensures t).0 d.0 in c.requires t ((c.slab-along_x.ensures t).0 b.0).0
+
+pub parts-requires-clause-near : goal.parts-requires-clause-near
+parts-requires-clause-near c = λ t w. let d = (c.slab-along_z.ensures t).0 w in let b = (c.slab-along_y.ensures t).0 d.0 in let a = (c.slab-along_x.ensures t).0 b.0 in (c.requires t a.0, a.1, b.1, d.1)
+
+pub returns : goal.returns
+returns c = λ t.
+    let axes = c.args.self.now.axes in
+    let u : V3 = sight_at c.args.sight.now t in
+    ball_shell c.parts.result t c.args.self.now.radius.value (wide_at c.along-x.result t) (wide_at c.along-y.result t) (wide_at c.along-z.result t) (own_of axes u) _ _ _ _
+    (c.along-x.ensures.value t) (c.along-y.ensures.value t) (c.along-z.ensures.value t) (c.slab-along_x.ensures t) (c.slab-along_y.ensures t) (c.slab-along_z.ensures t) (c.parts.ensures t)

@@ -1,0 +1,11 @@
+use Rattle.std.proofs.Common.{refl, ap, ◌∙◌, ℤ, List, [], ◌∷◌, ◌++◌}
+use Rattle.fix_math.specs.declared.fix.V3.{V3}
+use Rattle.shapes.specs.Faces.{seen_from, own, in_ball, in_pipe, ends}
+use Rattle.shapes.proofs.MakingLemmas.{seen_own}
+use Rattle.shapes.proofs.making.globe.Goals as goal
+
+pub returns : goal.returns
+returns c = λ p.
+    let l = own c.args.spot.now (seen_from c.args.spot.now.anchor p) in
+    ap (λ (v : V3). in_ball c.of-radius.result.value v ∷ []) (seen_own c.of-axes.result c.args.spot.now p c.of-axes.ensures.anchor c.of-axes.ensures.own)
+    ∙ ap (λ (r : ℤ). in_ball r l ∷ []) c.of-radius.ensures

@@ -1,0 +1,44 @@
+// Boxes under a transform.
+ghost use Rattle.std.specs.Prelude.{◌≡◌, ℕ, ◌&&◌, nat_lt};
+ghost use Rattle.shapes.specs.Faces.{all_hold};
+ghost use Rattle.shapes.specs.Lines.{is_in_stretches};
+ghost use Rattle.shapes.specs.Rays.{point_at};
+
+use crate::axes::Axes;
+use crate::parts::Stretches;
+use crate::path::Path;
+use crate::sight::Sight;
+use crate::span::Span;
+use crate::wide::Length;
+
+/// A box by its axes and its sides. (Reference manual, box)
+#[derive(Clone, Copy)]
+pub struct Cuboid {
+    pub axes: Axes,
+    pub x: Length,
+    pub y: Length,
+    pub z: Length,
+}
+
+impl Cuboid {
+    ghost use Rattle.shapes.specs.Bodies.{cuboid_faces};
+
+    /// The numbers of the path in the box.
+    #[inline(never)]
+    pub fn stretches(&self, path: &Path) -> Stretches
+        ensures { (t : ℕ) → is_in_stretches result t
+            ≡ (nat_lt t path.now.end && all_hold (cuboid_faces self.now (point_at path.now.ray t))) }
+    {
+        let sight = Sight::of_path(&self.axes.anchor, path);
+        let whole = Span {
+            from: 0,
+            end: path.end,
+        };
+        let x = self.axes.first.along(&sight);
+        let along_x = x.between_ends(self.x, whole);
+        let y = self.axes.second.along(&sight);
+        let along_y = y.between_ends(self.y, along_x);
+        let z = self.axes.third.along(&sight);
+        z.between_ends(self.z, along_y).alone()
+    }
+}

@@ -1,0 +1,94 @@
+// Spheres under a transform.
+ghost use Rattle.std.specs.Prelude.{◌≡◌, ◌↔◌, ℕ, ◌<◌, ◌^◌, ◌&&◌, nat_lt, true};
+ghost use Rattle.shapes.specs.Faces.{all_hold};
+ghost use Rattle.shapes.specs.Lines.{is_in_stretches};
+ghost use Rattle.shapes.specs.Rays.{point_at};
+
+use crate::axes::Axes;
+use crate::curve::Curve;
+use crate::measure::less_square_of_three;
+use crate::parts::{Stretches, parts};
+use crate::path::Path;
+use crate::sight::Sight;
+use crate::span::Span;
+use crate::wide::{Length, WideLine};
+
+/// A sphere by its axes. (Reference manual, sphere)
+#[derive(Clone, Copy)]
+pub struct Globe {
+    pub axes: Axes,
+    pub radius: Length,
+}
+
+/// The square of a ray's distance from a point, less that of a radius.
+#[derive(Clone, Copy)]
+pub struct Ball {
+    pub x: WideLine,
+    pub y: WideLine,
+    pub z: WideLine,
+    pub radius: Length,
+}
+
+impl Curve for Ball {
+    ghost use Rattle.std.specs.Prelude.{◌<◌, ◌≤◌, ◌^◌, unsigned_abs};
+    ghost use Rattle.shapes.specs.Lines.{wide_at};
+    ghost use Rattle.shapes.specs.Curves.{ball_value, ball_bend, ball-bends};
+
+    ghost value = { λ ball. ball_value ball.x ball.y ball.z ball.radius };
+
+    ghost can_eval = { λ ball t. (t < 2 ^ 32) × (unsigned_abs (wide_at ball.x t) ≤ unsigned_abs ball.radius.value) × (unsigned_abs (wide_at ball.y t) ≤ unsigned_abs ball.radius.value) × (unsigned_abs (wide_at ball.z t) ≤ unsigned_abs ball.radius.value) };
+
+    ghost bend = { λ ball. ball_bend ball.x ball.y ball.z };
+
+    ghost bends = { λ ball. ball-bends ball.x ball.y ball.z ball.radius };
+
+    #[inline]
+    fn at(&self, t: u64) -> i128 {
+        let x = self.x.measure(t).square();
+        let y = self.y.measure(t).square();
+        let z = self.z.measure(t).square();
+        less_square_of_three(x, y, z, self.radius.measure().square())
+    }
+}
+
+impl Globe {
+    ghost use Rattle.shapes.specs.Bodies.{globe_faces, own_of};
+    ghost use Rattle.shapes.specs.Faces.{in_ball};
+    ghost use Rattle.shapes.specs.Lines.{IsInStretches, IsWithin, sight_at};
+
+    /// The numbers of the path in the sphere.
+    #[inline(never)]
+    pub fn stretches(&self, path: &Path) -> Stretches
+        ensures { (t : ℕ) → is_in_stretches result t
+            ≡ (nat_lt t path.now.end && all_hold (globe_faces self.now (point_at path.now.ray t))) }
+    {
+        let sight = Sight::of_path(&self.axes.anchor, path);
+        let whole = Span {
+            from: 0,
+            end: path.end,
+        };
+        self.shell(&sight, whole)
+    }
+
+    /// The numbers of the span that are no farther from the middle than the radius.
+    #[inline]
+    pub fn shell(&self, sight: &Sight, span: Span) -> Stretches
+        requires { (t : ℕ) → IsWithin span t → t < 2 ^ 32 }
+        ensures { (t : ℕ) → IsInStretches result t ↔ (IsWithin span t
+            × (in_ball self.now.radius.value (own_of self.now.axes (sight_at sight.now t)) ≡ true)) }
+    {
+        let x = self.axes.first.along(sight);
+        let along_x = x.slab(self.radius, span);
+        let y = self.axes.second.along(sight);
+        let along_y = y.slab(self.radius, along_x);
+        let z = self.axes.third.along(sight);
+        let along_z = z.slab(self.radius, along_y);
+        let ball = Ball {
+            x,
+            y,
+            z,
+            radius: self.radius,
+        };
+        parts(&ball, along_z)
+    }
+}

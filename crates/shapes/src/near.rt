@@ -1,0 +1,113 @@
+// The numbers at which a curve that opens upward is small, from a guess of where they end.
+ghost use Rattle.std.specs.Prelude.{◌≡◌, ◌↔◌, ℕ, ℤ, pos, ◌<◌, ◌≤◌, ◌^◌, ◌≤ℤ◌, ◌<ℤ◌, ◌+◌, IsTrue, true, false};
+ghost use Rattle.shapes.specs.Bends.{IsConvex};
+ghost use Rattle.shapes.specs.Lines.{IsWithin};
+
+use crate::curve::{Above, AtMost, Curve, valley};
+use crate::search::Test;
+use crate::span::Span;
+
+/// A number near the guess, from `low` on and below `high`.
+#[inline]
+fn clamped(guess: u64, low: u64, high: u64) -> u64
+    requires { low < high }
+    ensures low { low ≤ result }
+    ensures high { result < high }
+{
+    if guess < low {
+        low
+    } else if guess < high {
+        guess
+    } else {
+        high - 1
+    }
+}
+
+/// The first number from `from` on and below `end` at which the test passes; `end` where there is none.
+/// Where it passes once, it passes at all numbers behind. The first questions are near a guess, which
+/// may be any number.
+#[inline]
+pub fn first_near<T: Test>(test: &T, from: u64, end: u64, guess: u64) -> u64
+    requires ordered { from ≤ end }
+    requires askable { (t : ℕ) → from ≤ t → t < end → T.can_ask test.now t }
+    requires rises { (s t : ℕ) → from ≤ s → s ≤ t → t < end → T.answer test.now s ≡ true
+        → T.answer test.now t ≡ true }
+    ensures low { from ≤ result }
+    ensures high { result ≤ end }
+    ensures before { (t : ℕ) → from ≤ t → t < result → T.answer test.now t ≡ false }
+    ensures after { (t : ℕ) → result ≤ t → t < end → T.answer test.now t ≡ true }
+{
+    let mut low = from;
+    let mut high = end;
+    let mut wish = guess;
+    let mut reach: u64 = 1;
+    while low < high {
+        let middle = if reach < 1000 {
+            clamped(wish, low, high)
+        } else {
+            clamped(low + (high - low) / 2, low, high)
+        };
+        if test.ask(middle) {
+            high = middle;
+            wish = middle.saturating_sub(reach);
+        } else {
+            low = middle + 1;
+            wish = low.saturating_add(reach - 1);
+        }
+        reach = reach.saturating_mul(8);
+    }
+    low
+}
+
+/// Whether it shows at a number of the span that the curve is above the limit in all the span: it falls
+/// up to there, and climbs from there on.
+fn is_passed<C: Curve>(curve: &C, limit: i128, span: Span, at: u64) -> bool
+    requires opens { IsConvex (C.value curve.now) }
+    requires near { (t : ℕ) → IsWithin span t → C.can_eval curve.now t }
+    requires low { span.from ≤ at }
+    requires high { at < span.end }
+    requires above { limit <ℤ C.value curve.now at }
+    ensures { IsTrue result → (t : ℕ) → IsWithin span t → limit <ℤ C.value curve.now t }
+{
+    if at == span.from {
+        at + 1 == span.end || curve.at(at) <= curve.at(at + 1)
+    } else if at + 1 == span.end {
+        curve.at(at - 1) > curve.at(at)
+    } else {
+        curve.at(at - 1) > curve.at(at) && curve.at(at) <= curve.at(at + 1)
+    }
+}
+
+/// The numbers of the span at which a curve whose steps grow is at most the limit, from guesses of
+/// its turning point and of the first and the last number.
+pub fn valley_near<C: Curve>(
+    curve: &C,
+    limit: i128,
+    span: Span,
+    turn: u64,
+    first: u64,
+    last: u64,
+) -> Span
+    requires opens { IsConvex (C.value curve.now) }
+    requires near { (t : ℕ) → IsWithin span t → C.can_eval curve.now t }
+    ensures { (t : ℕ) → IsWithin result t ↔ (IsWithin span t × (C.value curve.now t ≤ℤ limit)) }
+{
+    if span.from >= span.end {
+        return span;
+    }
+    let inside = clamped(turn, span.from, span.end);
+    if curve.at(inside) > limit {
+        if is_passed(curve, limit, span, inside) {
+            return Span { from: 0, end: 0 };
+        }
+        return valley(curve, limit, span);
+    }
+    let from = first_near(&AtMost { curve, limit }, span.from, inside, first);
+    let end = first_near(
+        &Above { curve, limit },
+        inside,
+        span.end,
+        last.saturating_add(1),
+    );
+    Span { from, end }
+}

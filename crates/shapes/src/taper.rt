@@ -1,0 +1,100 @@
+// Cones.
+ghost use Rattle.std.specs.Prelude.{◌≡◌, ◌↔◌, ℕ, ◌<◌, ◌^◌, ◌&&◌, nat_lt, true};
+ghost use Rattle.shapes.specs.Faces.{all_hold};
+ghost use Rattle.shapes.specs.Lines.{is_in_stretches};
+ghost use Rattle.shapes.specs.Rays.{point_at};
+
+use crate::axes::{Axes, Form};
+use crate::curve::Curve;
+use crate::measure::less_square;
+use crate::parts::{Stretches, parts};
+use crate::path::Path;
+use crate::sight::Sight;
+use crate::span::Span;
+use crate::wide::{Length, WideLine};
+
+/// A cone along the third of its axes. (Reference manual, cone)
+#[derive(Clone, Copy)]
+pub struct Taper {
+    pub axes: Axes,
+    /// The greater of the radii at its ends.
+    pub widest: Length,
+    /// The radius at its first end, and how it grows with a point's coordinates.
+    pub start: Length,
+    pub slope: Form,
+    pub height: Length,
+}
+
+/// The square of a ray's distance from an axis, less that of a radius that changes.
+#[derive(Clone, Copy)]
+pub struct Funnel {
+    pub x: WideLine,
+    pub y: WideLine,
+    pub radius: WideLine,
+    pub widest: Length,
+}
+
+impl Curve for Funnel {
+    ghost use Rattle.std.specs.Prelude.{pos, ◌<◌, ◌≤◌, ◌^◌, ◌≤ℤ◌, unsigned_abs};
+    ghost use Rattle.shapes.specs.Lines.{wide_at};
+    ghost use Rattle.shapes.specs.Curves.{taper_value, taper_bend, taper-bends};
+
+    ghost value = { λ funnel. taper_value funnel.x funnel.y funnel.radius };
+
+    ghost can_eval = { λ funnel t. (t < 2 ^ 32) × (unsigned_abs (wide_at funnel.x t) ≤ unsigned_abs funnel.widest.value) × (unsigned_abs (wide_at funnel.y t) ≤ unsigned_abs funnel.widest.value) × (pos 0 ≤ℤ wide_at funnel.radius t) × (wide_at funnel.radius t ≤ℤ pos (2 ^ 62)) };
+
+    ghost bend = { λ funnel. taper_bend funnel.x funnel.y funnel.radius };
+
+    ghost bends = { λ funnel. taper-bends funnel.x funnel.y funnel.radius };
+
+    #[inline]
+    fn at(&self, t: u64) -> i128 {
+        let x = self.x.measure(t).square();
+        let y = self.y.measure(t).square();
+        less_square(x, y, self.radius.measure(t).square())
+    }
+}
+
+impl Taper {
+    ghost use Rattle.shapes.specs.Bodies.{taper_faces, taper_radius, own_of};
+    ghost use Rattle.shapes.specs.Faces.{in_taper};
+    ghost use Rattle.shapes.specs.Lines.{IsInStretches, IsWithin, sight_at};
+
+    /// The numbers of the path in the cone.
+    #[inline(never)]
+    pub fn stretches(&self, path: &Path) -> Stretches
+        ensures { (t : ℕ) → is_in_stretches result t
+            ≡ (nat_lt t path.now.end && all_hold (taper_faces self.now (point_at path.now.ray t))) }
+    {
+        let sight = Sight::of_path(&self.axes.anchor, path);
+        let whole = Span {
+            from: 0,
+            end: path.end,
+        };
+        let z = self.axes.third.along(&sight);
+        let capped = z.between_ends(self.height, whole);
+        self.shell(&sight, capped)
+    }
+
+    /// The numbers of the span that are no farther from the axis than the radius there.
+    #[inline]
+    pub fn shell(&self, sight: &Sight, span: Span) -> Stretches
+        requires { (t : ℕ) → IsWithin span t → t < 2 ^ 32 }
+        ensures { (t : ℕ) → IsInStretches result t ↔ (IsWithin span t
+            × (in_taper self.now.widest.value (taper_radius self.now (sight_at sight.now t)) (own_of self.now.axes (sight_at sight.now t)) ≡ true)) }
+    {
+        let x = self.axes.first.along(sight);
+        let along_x = x.slab(self.widest, span);
+        let y = self.axes.second.along(sight);
+        let along_y = y.slab(self.widest, along_x);
+        let radius = self.slope.along(sight).more(self.start);
+        let some = radius.between_ends(Length::longest(), along_y);
+        let funnel = Funnel {
+            x,
+            y,
+            radius,
+            widest: self.widest,
+        };
+        parts(&funnel, some)
+    }
+}

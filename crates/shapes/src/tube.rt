@@ -1,0 +1,93 @@
+// Cylinders.
+ghost use Rattle.std.specs.Prelude.{◌≡◌, ◌↔◌, ℕ, ◌<◌, ◌^◌, ◌&&◌, nat_lt, true};
+ghost use Rattle.shapes.specs.Faces.{all_hold};
+ghost use Rattle.shapes.specs.Lines.{is_in_stretches};
+ghost use Rattle.shapes.specs.Rays.{point_at};
+
+use crate::axes::Axes;
+use crate::curve::Curve;
+use crate::measure::less_square;
+use crate::parts::{Stretches, parts};
+use crate::path::Path;
+use crate::sight::Sight;
+use crate::span::Span;
+use crate::wide::{Length, WideLine};
+
+/// A cylinder along the third of its axes. (Reference manual, cylinder)
+#[derive(Clone, Copy)]
+pub struct Tube {
+    pub axes: Axes,
+    pub radius: Length,
+    pub height: Length,
+}
+
+/// The square of a ray's distance from an axis, less that of a radius.
+#[derive(Clone, Copy)]
+pub struct Pipe {
+    pub x: WideLine,
+    pub y: WideLine,
+    pub radius: Length,
+}
+
+impl Curve for Pipe {
+    ghost use Rattle.std.specs.Prelude.{◌+ℤ◌, ◌-ℤ◌, ◌*ℤ◌, pos, ◌<◌, ◌≤◌, ◌^◌, unsigned_abs};
+    ghost use Rattle.shapes.specs.Lines.{wide_at};
+    ghost use Rattle.shapes.specs.Spheres.{square};
+    ghost use Rattle.shapes.specs.Curves.{pipe_value, pipe_bend, pipe-bends};
+
+    ghost value = { λ pipe. pipe_value pipe.x pipe.y pipe.radius };
+
+    ghost can_eval = { λ pipe t. (t < 2 ^ 32) × (unsigned_abs (wide_at pipe.x t) ≤ unsigned_abs pipe.radius.value) × (unsigned_abs (wide_at pipe.y t) ≤ unsigned_abs pipe.radius.value) };
+
+    ghost bend = { λ pipe. pipe_bend pipe.x pipe.y };
+
+    ghost bends = { λ pipe. pipe-bends pipe.x pipe.y pipe.radius };
+
+    #[inline]
+    fn at(&self, t: u64) -> i128 {
+        let x = self.x.measure(t).square();
+        let y = self.y.measure(t).square();
+        less_square(x, y, self.radius.measure().square())
+    }
+}
+
+impl Tube {
+    ghost use Rattle.shapes.specs.Bodies.{tube_faces, own_of};
+    ghost use Rattle.shapes.specs.Faces.{in_pipe};
+    ghost use Rattle.shapes.specs.Lines.{IsInStretches, IsWithin, sight_at};
+
+    /// The numbers of the path in the cylinder.
+    #[inline(never)]
+    pub fn stretches(&self, path: &Path) -> Stretches
+        ensures { (t : ℕ) → is_in_stretches result t
+            ≡ (nat_lt t path.now.end && all_hold (tube_faces self.now (point_at path.now.ray t))) }
+    {
+        let sight = Sight::of_path(&self.axes.anchor, path);
+        let whole = Span {
+            from: 0,
+            end: path.end,
+        };
+        let z = self.axes.third.along(&sight);
+        let capped = z.between_ends(self.height, whole);
+        self.shell(&sight, capped)
+    }
+
+    /// The numbers of the span that are no farther from the axis than the radius.
+    #[inline]
+    pub fn shell(&self, sight: &Sight, span: Span) -> Stretches
+        requires { (t : ℕ) → IsWithin span t → t < 2 ^ 32 }
+        ensures { (t : ℕ) → IsInStretches result t ↔ (IsWithin span t
+            × (in_pipe self.now.radius.value (own_of self.now.axes (sight_at sight.now t)) ≡ true)) }
+    {
+        let x = self.axes.first.along(sight);
+        let along_x = x.slab(self.radius, span);
+        let y = self.axes.second.along(sight);
+        let along_y = y.slab(self.radius, along_x);
+        let pipe = Pipe {
+            x,
+            y,
+            radius: self.radius,
+        };
+        parts(&pipe, along_y)
+    }
+}
