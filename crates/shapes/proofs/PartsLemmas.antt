@@ -72,12 +72,12 @@ few_iff v span one two some few first second t =
     let P : ℕ → Type 0 = λ s. IsWithin span s × (v s ≤ℤ pos 0) in
     let Q : ℕ → Type 0 = λ s. v s ≤ℤ pos 0 in (
       λ w. ⊎_elim
-      (λ a. let k = (first t).0 a in subst P (sym k.0) (record { low = omega arith; high = some }, k.1))
-      (λ a. let k = (second t).0 a in subst P (sym k.0) (record { low = omega arith; high = k.1 }, k.2)) w,
+          (λ a. let k = (first t).0 a in subst P (sym k.0) (record { low = omega arith; high = some }, k.1))
+          (λ a. let k = (second t).0 a in subst P (sym k.0) (record { low = omega arith; high = k.1 }, k.2)) w,
       λ h. ⊎_elim
-      (λ lt. let e : t ≡ span.from = omega (arith, h.0.low, h.0.high) in inl ((first t).1 (e, subst Q e h.1)))
-      (λ ge. let e : t ≡ span.from + 1 = omega (arith, h.0.low, h.0.high) in inr ((second t).1 (e, omega (arith, h.0.high), subst Q e h.1)))
-      (cases_lt t (span.from + 1)),
+          (λ lt. let e : t ≡ span.from = omega (arith, h.0.low, h.0.high) in inl ((first t).1 (e, subst Q e h.1)))
+          (λ ge. let e : t ≡ span.from + 1 = omega (arith, h.0.low, h.0.high) in inr ((second t).1 (e, omega (arith, h.0.high), subst Q e h.1)))
+          (cases_lt t (span.from + 1)),
     )
 
 -- where a curve isn't above 0, by where the turned one isn't above -1

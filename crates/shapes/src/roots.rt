@@ -94,6 +94,10 @@ fn scaled(number: u64, half: u64, inverse: u64, lost: u32) -> u64 {
     if lost >= 64 {
         return 0;
     }
-    let wide = (number as u128).wrapping_mul(half as u128).wrapping_mul(inverse as u128) >> 64 >> lost;
+    let wide = (number as u128)
+        .wrapping_mul(half as u128)
+        .wrapping_mul(inverse as u128)
+        >> 64
+        >> lost;
     if wide < 1 << 40 { wide as u64 } else { 1 << 40 }
 }

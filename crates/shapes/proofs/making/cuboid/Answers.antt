@@ -1,4 +1,3 @@
-use Rattle.shapes.specs.Faces.{seen_from, own}
 use Rattle.shapes.proofs.MakingLemmas.{seen_own, cuboid_same}
 use Rattle.shapes.proofs.making.cuboid.Goals as goal
 

@@ -1,6 +1,6 @@
-use Rattle.std.proofs.Common.{refl, ap, ◌∙◌, ℤ, List, [], ◌∷◌, ◌++◌}
+use Rattle.std.proofs.Common.{ap, ◌∙◌, ℤ, [], ◌∷◌}
 use Rattle.fix_math.specs.declared.fix.V3.{V3}
-use Rattle.shapes.specs.Faces.{seen_from, own, in_ball, in_pipe, ends}
+use Rattle.shapes.specs.Faces.{seen_from, own, in_ball}
 use Rattle.shapes.proofs.MakingLemmas.{seen_own}
 use Rattle.shapes.proofs.making.globe.Goals as goal
 

@@ -1,4 +1,4 @@
-use Rattle.std.proofs.Common.{rules, arith, ◌≡◌, pos, ◌^◌, ◌-◌, ◌-ℤ◌, ◌*ℤ◌, FitsSigned, refl, w64, ◌≤◌, unsigned_abs}
+use Rattle.std.proofs.Common.{rules, arith, ◌-ℤ◌, ◌*ℤ◌, FitsSigned, refl}
 use Rattle.std.proofs.lemmas.Int.{ints, to_z-of_z, fits_signed_from_abs}
 use mir.Syntax.{w128}
 use Rattle.shapes.proofs.MakingLemmas.{slope_top}

@@ -1,5 +1,5 @@
-use Rattle.std.proofs.Common.{rules, arith, ◌≡◌, pos, ◌^◌, ◌-◌, ◌-ℤ◌, ◌*ℤ◌, FitsSigned, refl, w64, ◌≤◌, unsigned_abs}
-use Rattle.std.proofs.lemmas.Int.{ints, to_z-of_z, fits_signed_from_abs}
+use Rattle.std.proofs.Common.{arith, ◌-◌, ◌*ℤ◌, FitsSigned, refl}
+use Rattle.std.proofs.lemmas.Int.{to_z-of_z, fits_signed_from_abs}
 use mir.Syntax.{w128}
 use Rattle.shapes.proofs.MakingLemmas.{bottom_small}
 use Rattle.shapes.proofs.making.lengthened.Goals as goal

@@ -1,5 +1,5 @@
 use Rattle.std.proofs.Common.{rules, arith, ◌+ℤ◌, FitsSigned, refl}
-use Rattle.std.proofs.lemmas.Int.{ints, to_z-of_z, fits_signed_from_abs}
+use Rattle.std.proofs.lemmas.Int.{to_z-of_z, fits_signed_from_abs}
 use mir.Syntax.{w128}
 use Rattle.shapes.proofs.MakingLemmas.{shares_sum, mixed_small}
 use Rattle.shapes.proofs.making.mixed.Goals as goal

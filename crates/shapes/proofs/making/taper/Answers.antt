@@ -1,12 +1,11 @@
-use Rattle.std.proofs.Common.{arith, ◌≡◌, ◌∙◌, ap, pos, ℤ, ◌^◌, ◌-◌, ◌+ℤ◌, ◌-ℤ◌, ◌*ℤ◌, refl}
+use Rattle.std.proofs.Common.{arith, ◌≡◌, ◌∙◌, ap, pos, ℤ, ◌^◌, ◌-◌, ◌-ℤ◌, ◌*ℤ◌, refl}
 use Rattle.std.proofs.lemmas.Int.{ints}
 use Rattle.fix_math.specs.Matrices.{along, entry}
 use Rattle.fix_math.specs.Numbers.{rnd}
 use Rattle.fix_math.specs.declared.fix.V3.{V3}
 use Rattle.std.specs.Int.{int_max}
 use Rattle.fix_math.specs.Vectors.{dot}
-use Rattle.shapes.specs.Bodies.{form_at}
-use Rattle.shapes.specs.Faces.{seen_from, own, long, slope_of, radius_at}
+use Rattle.shapes.specs.Faces.{seen_from, long, slope_of}
 use Rattle.shapes.proofs.MakingLemmas.{seen_own, taper_same, radius_same}
 use Rattle.shapes.proofs.making.taper.Goals as goal
 

@@ -1,4 +1,3 @@
-use Rattle.shapes.specs.Faces.{seen_from, own}
 use Rattle.shapes.proofs.MakingLemmas.{seen_own, tube_same}
 use Rattle.shapes.proofs.making.tube.Goals as goal
 

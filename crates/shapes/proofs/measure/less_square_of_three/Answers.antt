@@ -1,5 +1,5 @@
 use Rattle.std.proofs.Common.{rules, arith, ◌+ℤ◌, ◌-ℤ◌, FitsSigned, refl}
-use Rattle.std.proofs.lemmas.Int.{ints, to_z-of_z, fits_signed_from_abs}
+use Rattle.std.proofs.lemmas.Int.{to_z-of_z, fits_signed_from_abs}
 use mir.Syntax.{w128}
 use Rattle.shapes.proofs.Squares.{small_sum, small_sum3, small_rest3}
 use Rattle.shapes.proofs.measure.less_square_of_three.Goals as goal

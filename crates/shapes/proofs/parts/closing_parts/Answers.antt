@@ -1,4 +1,4 @@
-use Rattle.std.proofs.Common.{arith, pos, ◌-ℤ◌}
+use Rattle.std.proofs.Common.{arith}
 use Rattle.std.proofs.lemmas.Int.{ints}
 use Rattle.shapes.specs.Bends.{convex_from_bend, HasBend-neg}
 use Rattle.shapes.proofs.PartsLemmas.{turned_iff}

@@ -1,4 +1,4 @@
-use Rattle.std.proofs.Common.{arith, ◌+◌, ◌-◌, ◌/◌, ◌-ℤ◌, ◌≤ℤ◌, FitsSigned}
+use Rattle.std.proofs.Common.{arith, ◌-◌, ◌/◌, ◌-ℤ◌, ◌≤ℤ◌, FitsSigned}
 use Rattle.std.proofs.lemmas.Int.{to_z-of_z, by_lt_z}
 use mir.Syntax.{w128}
 use Rattle.shapes.proofs.PartsLemmas.{opens_from, closes_from}

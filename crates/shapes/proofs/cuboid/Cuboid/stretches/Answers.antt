@@ -1,5 +1,4 @@
-use Rattle.std.proofs.Common.{arith, ◌≡◌, ◌∙◌, ap, ℤ, ◌≤◌, ◌<◌, ◌^◌, unsigned_abs}
-use Rattle.std.proofs.lemmas.Int.{ints}
+use Rattle.std.proofs.Common.{arith, ◌≡◌, ◌∙◌, ap}
 use Rattle.fix_math.specs.declared.fix.V3.{V3}
 use Rattle.shapes.specs.Faces.{seen_from}
 use Rattle.shapes.specs.Rays.{point_at}

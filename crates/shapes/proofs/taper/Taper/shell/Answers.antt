@@ -1,10 +1,7 @@
-use Rattle.std.proofs.Common.{arith, ◌≡◌, ◌∙◌, ap, ℤ, ◌+ℤ◌, Bool}
-use Rattle.std.proofs.lemmas.Int.{ints}
+use Rattle.std.proofs.Common.{◌≡◌, ◌∙◌, ap, ℤ, ◌+ℤ◌}
 use Rattle.fix_math.specs.declared.fix.V3.{V3}
-use Rattle.shapes.specs.Faces.{seen_from, in_pipe, in_ball, in_taper}
-use Rattle.shapes.specs.Rays.{point_at}
 use Rattle.shapes.specs.Lines.{wide_at, sight_at}
-use Rattle.shapes.specs.Bodies.{form_at, own_of, taper_radius}
+use Rattle.shapes.specs.Bodies.{own_of, taper_radius}
 use Rattle.shapes.proofs.Told.{taper_shell}
 use Rattle.shapes.proofs.taper.Taper.shell.Goals as goal
 

@@ -1,6 +1,5 @@
 use Rattle.std.proofs.Common.{arith, ◌*ℤ◌, FitsSigned, refl, w64}
-use Rattle.std.proofs.lemmas.Int.{ints, to_z-of_z, fits_signed_from_abs}
-use mir.Syntax.{w128}
+use Rattle.std.proofs.lemmas.Int.{to_z-of_z, fits_signed_from_abs}
 use Rattle.shapes.proofs.MakingLemmas.{length_small, length_low}
 use Rattle.shapes.proofs.wide.Length.of.Goals as goal
 

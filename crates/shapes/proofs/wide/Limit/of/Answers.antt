@@ -1,5 +1,5 @@
-use Rattle.std.proofs.Common.{arith, ◌*ℤ◌, FitsSigned, refl, w64}
-use Rattle.std.proofs.lemmas.Int.{ints, to_z-of_z, fits_signed_from_abs}
+use Rattle.std.proofs.Common.{arith, ◌*ℤ◌, FitsSigned, refl}
+use Rattle.std.proofs.lemmas.Int.{to_z-of_z, fits_signed_from_abs}
 use mir.Syntax.{w128}
 use Rattle.shapes.proofs.MakingLemmas.{limit_small}
 use Rattle.shapes.proofs.wide.Limit.of.Goals as goal

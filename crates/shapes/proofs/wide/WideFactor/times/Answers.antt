@@ -1,4 +1,4 @@
-use Rattle.std.proofs.Common.{rules, arith, ◌*ℤ◌, ◌^◌, ◌*◌, FitsSigned, ◌≤◌, unsigned_abs, w64, ℤ, pos, ◌+ℤ◌}
+use Rattle.std.proofs.Common.{rules, arith, ◌*ℤ◌, FitsSigned, w64, pos}
 use Rattle.std.proofs.lemmas.Int.{ints, to_z-of_z, fits_signed_from_abs}
 use mir.Syntax.{w128}
 use Rattle.shapes.proofs.WideLemmas.{wide_at, wide_step, product_line}

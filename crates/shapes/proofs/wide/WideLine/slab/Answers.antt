@@ -1,5 +1,4 @@
-use Rattle.std.proofs.Common.{arith, ◌≡◌, ◌-ℤ◌, ap, ◌∙◌}
-use Rattle.std.proofs.lemmas.Int.{ints}
+use Rattle.std.proofs.Common.{◌-ℤ◌, ap, ◌∙◌}
 use Rattle.shapes.proofs.Slabs.{slab_chain}
 use Rattle.shapes.specs.Lines.{wide_at}
 use Rattle.shapes.proofs.wide.WideLine.slab.Goals as goal

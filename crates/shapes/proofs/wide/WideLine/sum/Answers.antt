@@ -1,5 +1,5 @@
 use Rattle.std.proofs.Common.{rules, arith, ◌+ℤ◌, FitsSigned, pos}
-use Rattle.std.proofs.lemmas.Int.{ints, to_z-of_z, fits_signed_from_abs}
+use Rattle.std.proofs.lemmas.Int.{ints, to_z-of_z}
 use mir.Syntax.{w128}
 use Rattle.shapes.proofs.WideLemmas.{sum_line, sums_fit}
 use Rattle.shapes.proofs.wide.WideLine.sum.Goals as goal
