@@ -7,7 +7,7 @@ use Rattle.fix_math.specs.Matrices.{row_of, row_at, along}
 use Rattle.xform.specs.Transforms.{identity, IsPlaced}
 use Rattle.xform.specs.Placing.{spot_of, axis_frame_of, IsSpot}
 use Rattle.scene_model.specs.declared.shape.Leaf.{Leaf}
-use Rattle.scene_model.specs.declared.shape.Prim.{Prim}
+use Rattle.scene_model.specs.declared.shape.Primitive.{Primitive}
 use Rattle.scene_model.specs.Amounts.{IsAmount, AreAmounts, IsIor}
 
 -- a plane ends in a direction of length 1 unit, at most 4096 units from the origin
@@ -34,31 +34,31 @@ pub record IsQuadric (c : List ℤ) : Type 0 where
   pub each : All (λ z. unsigned_abs z ≤ 2 ^ 28) c
 
 -- the lengths that each solid may have: radii to 4096 units, sides to 8192
-abbrev pub IsPrim : Prim → Type 0
-IsPrim (Prim.Sphere r) = IsAmount (2 ^ 28) r
-IsPrim (Prim.Box size) = AreAmounts (2 ^ 29) (row_of (along size))
-IsPrim (Prim.Plane normal d) = IsPlane normal d
-IsPrim (Prim.Cylinder r h uncapped) = IsCylinder r h
-IsPrim (Prim.Cone ra rb h axis uncapped) = IsCone ra rb h
-IsPrim (Prim.Quadric c) = IsQuadric c
+abbrev pub IsPrim : Primitive → Type 0
+IsPrim (Primitive.Sphere r) = IsAmount (2 ^ 28) r
+IsPrim (Primitive.Box size) = AreAmounts (2 ^ 29) (row_of (along size))
+IsPrim (Primitive.Plane normal d) = IsPlane normal d
+IsPrim (Primitive.Cylinder r h uncapped) = IsCylinder r h
+IsPrim (Primitive.Cone ra rb h axis uncapped) = IsCone ra rb h
+IsPrim (Primitive.Quadric c) = IsQuadric c
 
 -- how far a solid reaches from its middle along its axes, at most: what bits its place has to leave for
-abbrev pub extent_of : Prim → ℕ
-extent_of (Prim.Sphere r) = unsigned_abs r
-extent_of (Prim.Box size) = greatest_of size
-extent_of (Prim.Plane normal d) = unsigned_abs d
-extent_of (Prim.Cylinder r h uncapped) = max (unsigned_abs r) (unsigned_abs h)
-extent_of (Prim.Cone ra rb h axis uncapped) = max (max (unsigned_abs ra) (unsigned_abs rb)) (unsigned_abs h)
-extent_of (Prim.Quadric c) = 0
+abbrev pub extent_of : Primitive → ℕ
+extent_of (Primitive.Sphere r) = unsigned_abs r
+extent_of (Primitive.Box size) = greatest_of size
+extent_of (Primitive.Plane normal d) = unsigned_abs d
+extent_of (Primitive.Cylinder r h uncapped) = max (unsigned_abs r) (unsigned_abs h)
+extent_of (Primitive.Cone ra rb h axis uncapped) = max (max (unsigned_abs ra) (unsigned_abs rb)) (unsigned_abs h)
+extent_of (Primitive.Quadric c) = 0
 
 -- the axes that a solid is described by: those of its space, or an axis of its own with two across it
-abbrev pub IsFrame : Prim → List (List ℤ) → Type 0
-IsFrame (Prim.Sphere r) frame = frame ≡ identity (pos 65536)
-IsFrame (Prim.Box size) frame = frame ≡ identity (pos 65536)
-IsFrame (Prim.Plane normal d) frame = frame ≡ identity (pos 65536)
-IsFrame (Prim.Cylinder r h uncapped) frame = (v : V3) × (frame ≡ axis_frame_of v)
-IsFrame (Prim.Cone ra rb h axis uncapped) frame = (v : V3) × (frame ≡ axis_frame_of v) × (row_of (along axis) ≡ row_at frame 2)
-IsFrame (Prim.Quadric c) frame = frame ≡ identity (pos 65536)
+abbrev pub IsFrame : Primitive → List (List ℤ) → Type 0
+IsFrame (Primitive.Sphere r) frame = frame ≡ identity (pos 65536)
+IsFrame (Primitive.Box size) frame = frame ≡ identity (pos 65536)
+IsFrame (Primitive.Plane normal d) frame = frame ≡ identity (pos 65536)
+IsFrame (Primitive.Cylinder r h uncapped) frame = (v : V3) × (frame ≡ axis_frame_of v)
+IsFrame (Primitive.Cone ra rb h axis uncapped) frame = (v : V3) × (frame ≡ axis_frame_of v) × (row_of (along axis) ≡ row_at frame 2)
+IsFrame (Primitive.Quadric c) frame = frame ≡ identity (pos 65536)
 
 -- a leaf's place is that of its middle c, in its frame, by its transform
 pub record IsPlacing (leaf : Leaf) (frame : List (List ℤ)) (c : V3) : Type 0 where

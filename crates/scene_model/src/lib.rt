@@ -10,5 +10,5 @@ mod texture;
 pub use camera::Camera;
 pub use light::{Fade, Light, Spotlight};
 pub use scene::{Object, Scene, Sheet};
-pub use shape::{Leaf, Op, Prim, Shape};
+pub use shape::{Leaf, Op, Primitive, Shape};
 pub use texture::{Entry, Finish, Pattern, Pigment, Rgb, Rgbft, Texture};

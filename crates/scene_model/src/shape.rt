@@ -27,7 +27,7 @@ pub enum Op {
 /// One solid of a shape, with its place and what it is made of.
 #[derive(Clone, Copy, Debug, PartialEq, Eq)]
 pub struct Leaf {
-    pub prim: Prim,
+    pub prim: Primitive,
     /// From the solid's own space to the world.
     pub xform: Xform,
     /// Where the solid stands: its middle, and its axes.
@@ -48,7 +48,7 @@ pub struct Leaf {
 /// A solid by its lengths along its own axes, in raw numbers. What it is measured from is its middle,
 /// which its spot places.
 #[derive(Clone, Copy, Debug, PartialEq, Eq)]
-pub enum Prim {
+pub enum Primitive {
     /// By its radius; the middle is its centre. (Reference manual, sphere)
     Sphere {
         r: Fix,

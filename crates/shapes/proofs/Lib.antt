@@ -10,3 +10,4 @@ pub mod Told
 pub mod Terms
 pub mod MakingLemmas
 pub mod Rooms
+pub mod Failing

@@ -1,10 +1,9 @@
 -- Lengths in the measure of a spot, and sums of products with entries: their sizes and values.
-use Rattle.std.proofs.Common.{ℕ, ℤ, pos, negsuc, ◌+◌, ◌*◌, ◌<◌, ◌≤◌, ◌^◌, ◌+ℤ◌, ◌-ℤ◌, ◌*ℤ◌, ◌≤ℤ◌, ◌<ℤ◌, ◌≡◌, ◌⊎◌, ⊎_elim, arith, unsigned_abs, FitsSigned, refl, List, [], ◌∷◌, ◌++◌, Bool}
+use Rattle.std.proofs.Common.{ℕ, ℤ, pos, negsuc, ◌+◌, ◌*◌, ◌<◌, ◌≤◌, ◌^◌, ◌+ℤ◌, ◌-ℤ◌, ◌*ℤ◌, ◌≤ℤ◌, ◌<ℤ◌, ◌≡◌, ⊎_elim, arith, unsigned_abs, refl, ◌∷◌, ◌++◌}
 use Rattle.std.proofs.lemmas.Bool.{cases_lt}
 use Rattle.std.proofs.Math.Pow.{pow_mono}
-use Rattle.std.proofs.lemmas.Int.{ints, fits_signed_from_abs, unsigned_abs-mul}
+use Rattle.std.proofs.lemmas.Int.{ints, unsigned_abs-mul}
 use Rattle.std.proofs.lemmas.Nat.{pow-add}
-use mir.Syntax.{w128}
 use Rattle.fix_math.specs.Order.{mul-within}
 use Rattle.fix_math.specs.Floor.{rnd_within}
 use Rattle.fix_math.specs.Numbers.{rnd}

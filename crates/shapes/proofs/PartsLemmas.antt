@@ -1,12 +1,11 @@
 -- Curves whose steps change evenly: which way they bend, and the numbers at which they aren't above 0.
-use Rattle.std.proofs.Common.{ℕ, zero, suc, ℤ, pos, negsuc, ◌+◌, ◌-◌, ◌<◌, ◌≤◌, ◌+ℤ◌, ◌-ℤ◌, ◌*ℤ◌, ◌<ℤ◌, ◌≤ℤ◌, ◌≡◌, ◌↔◌, ◌⊎◌, inl, inr, ⊎_elim, subst, ap, sym, ◌∙◌, arith}
+use Rattle.std.proofs.Common.{ℕ, zero, suc, ℤ, pos, negsuc, ◌+◌, ◌<◌, ◌≤◌, ◌+ℤ◌, ◌-ℤ◌, ◌*ℤ◌, ◌<ℤ◌, ◌≤ℤ◌, ◌≡◌, ◌↔◌, ◌⊎◌, inl, inr, ⊎_elim, subst, ap, sym, arith}
 use Rattle.std.proofs.lemmas.Int.{ints, by_lt_z}
 use Rattle.std.proofs.lemmas.Bool.{cases_lt}
 use Rattle.fix_math.specs.Order.{mul-le_left}
 use Rattle.shapes.specs.Bends.{HasBend}
-use Rattle.shapes.specs.Lines.{IsWithin, IsInStretches}
+use Rattle.shapes.specs.Lines.{IsWithin}
 use Rattle.shapes.specs.declared.span.Span.{Span}
-use Rattle.shapes.specs.declared.parts.Stretches.{Stretches}
 
 -- the step at s + n is the step at s and n bends more
 step_on : (v : ℕ → ℤ) (k : ℤ) → HasBend v k → (s n : ℕ) → (v (s + n + 1) -ℤ v (s + n)) ≡ (v (s + 1) -ℤ v s) +ℤ (pos n *ℤ k)

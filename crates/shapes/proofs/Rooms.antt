@@ -1,6 +1,5 @@
 -- What a valid leaf tells of its lengths: there is room for them in the measure of its spot.
-use Rattle.std.proofs.Common.{ℕ, ℤ, pos, ◌+◌, ◌*◌, ◌<◌, ◌≤◌, ◌^◌, ◌≡◌, max, arith, unsigned_abs, subst, sym, List, Bool}
-use Rattle.std.proofs.lemmas.Int.{ints}
+use Rattle.std.proofs.Common.{ℕ, ℤ, pos, ◌*◌, ◌<◌, ◌≤◌, ◌^◌, ◌≡◌, arith, subst, sym, List, Bool}
 use Rattle.std.proofs.Math.Nat.{mul-le-mul_right}
 use Rattle.fix_math.specs.declared.fix.V3.{V3}
 use Rattle.fix_math.specs.DirectionLaws.{unit_within}
@@ -12,7 +11,7 @@ use Rattle.xform.specs.SpotLaws.{placing_of, axis_frame_within}
 use Rattle.xform.specs.Transforms.{identity}
 use Rattle.scene_model.specs.Solids.{IsLeaf, IsPrim, IsFrame, IsPlane, extent_of}
 use Rattle.scene_model.specs.declared.shape.Leaf.{Leaf}
-use Rattle.scene_model.specs.declared.shape.Prim.{Prim}
+use Rattle.scene_model.specs.declared.shape.Primitive.{Primitive}
 
 identity_within : IsMatrixWithin 65537 (identity (pos 65536))
 identity_within = record {
@@ -27,21 +26,21 @@ world_frame frame e = let P : List (List ℤ) → Type 0 = λ f. IsMatrixWithin 
 axis_frame : (frame : List (List ℤ)) (v : V3) → frame ≡ axis_frame_of v → IsMatrixWithin 65537 frame
 axis_frame frame v e = let P : List (List ℤ) → Type 0 = λ f. IsMatrixWithin 65537 f in subst P (sym e) (axis_frame_within v)
 
-frame_within : (prim : Prim) (frame : List (List ℤ)) → IsFrame prim frame → IsMatrixWithin 65537 frame
-frame_within (Prim.Sphere r) frame h = world_frame frame h
-frame_within (Prim.Box size) frame h = world_frame frame h
-frame_within (Prim.Plane normal d) frame h = world_frame frame h
-frame_within (Prim.Cylinder r h uncapped) frame k = axis_frame frame k.0 k.1
-frame_within (Prim.Cone ra rb h axis uncapped) frame k = axis_frame frame k.0 k.1
-frame_within (Prim.Quadric c) frame h = world_frame frame h
+frame_within : (prim : Primitive) (frame : List (List ℤ)) → IsFrame prim frame → IsMatrixWithin 65537 frame
+frame_within (Primitive.Sphere r) frame h = world_frame frame h
+frame_within (Primitive.Box size) frame h = world_frame frame h
+frame_within (Primitive.Plane normal d) frame h = world_frame frame h
+frame_within (Primitive.Cylinder r h uncapped) frame k = axis_frame frame k.0 k.1
+frame_within (Primitive.Cone ra rb h axis uncapped) frame k = axis_frame frame k.0 k.1
+frame_within (Primitive.Quadric c) frame h = world_frame frame h
 
-extent_few : (prim : Prim) → IsPrim prim → extent_of prim ≤ 2 ^ 30
-extent_few (Prim.Sphere r) h = omega (arith, h.high)
-extent_few (Prim.Box size) h = omega (arith, h.first.high, h.second.high, h.third.high)
-extent_few (Prim.Plane normal d) h = omega (arith, h.distance)
-extent_few (Prim.Cylinder r h uncapped) k = omega (arith, k.radius.high, k.height.high)
-extent_few (Prim.Cone ra rb h axis uncapped) k = omega (arith, k.first.high, k.second.high, k.height.high)
-extent_few (Prim.Quadric c) h = omega arith
+extent_few : (prim : Primitive) → IsPrim prim → extent_of prim ≤ 2 ^ 30
+extent_few (Primitive.Sphere r) h = omega (arith, h.high)
+extent_few (Primitive.Box size) h = omega (arith, h.first.high, h.second.high, h.third.high)
+extent_few (Primitive.Plane normal d) h = omega (arith, h.distance)
+extent_few (Primitive.Cylinder r h uncapped) k = omega (arith, k.radius.high, k.height.high)
+extent_few (Primitive.Cone ra rb h axis uncapped) k = omega (arith, k.first.high, k.second.high, k.height.high)
+extent_few (Primitive.Quadric c) h = omega arith
 
 pub room_under : (leaf : Leaf) → IsLeaf leaf → (n : ℕ) → n ≤ extent_of leaf.prim → n * 2 ^ leaf.spot.e < 2 ^ 45
 room_under leaf h n le =
@@ -60,9 +59,9 @@ cone_axis axis v frame e f =
     let P : List ℤ → Type 0 = λ r. IsRowWithin 65537 r in
     subst P (sym f) (axis_frame frame v e).third
 
-pub axis_within : (leaf : Leaf) (ra rb h : ℤ) (axis : V3) (uncapped : Bool) → IsLeaf leaf → leaf.prim ≡ Prim.Cone ra rb h axis uncapped → IsVectorWithin 65537 axis
+pub axis_within : (leaf : Leaf) (ra rb h : ℤ) (axis : V3) (uncapped : Bool) → IsLeaf leaf → leaf.prim ≡ Primitive.Cone ra rb h axis uncapped → IsVectorWithin 65537 axis
 axis_within leaf ra rb h axis uncapped k e =
     let p = k.placing in
-    let P : Prim → Type 0 = λ q. IsFrame q p.0 in
+    let P : Primitive → Type 0 = λ q. IsFrame q p.0 in
     let f = subst P e p.2.axes in
     cone_axis axis f.0 p.0 f.1 f.2

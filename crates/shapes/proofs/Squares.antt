@@ -1,7 +1,6 @@
 -- Sums of squares fit.
-use Rattle.std.proofs.Common.{ℤ, pos, ◌≤◌, ◌<◌, ◌^◌, ◌+ℤ◌, ◌-ℤ◌, ◌≤ℤ◌, arith, unsigned_abs, FitsSigned}
-use Rattle.std.proofs.lemmas.Int.{ints, fits_signed_from_abs}
-use mir.Syntax.{w128}
+use Rattle.std.proofs.Common.{ℤ, pos, ◌≤◌, ◌<◌, ◌^◌, ◌+ℤ◌, ◌-ℤ◌, ◌≤ℤ◌, arith, unsigned_abs}
+use Rattle.std.proofs.lemmas.Int.{ints}
 
 pub small_sum : (x y : ℤ) → pos 0 ≤ℤ x → pos 0 ≤ℤ y → unsigned_abs x ≤ 2 ^ 124 → unsigned_abs y ≤ 2 ^ 124 → unsigned_abs (x +ℤ y) ≤ 2 ^ 125
 small_sum x y a b h k = omega (arith, ints)

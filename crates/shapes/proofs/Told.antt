@@ -1,7 +1,7 @@
 -- The faces of solids as tests, and as facts that rows of numbers are narrowed by.
 use lib.Dec.{leb}
 use lib.Signed.{le_z}
-use Rattle.std.proofs.Common.{ℕ, ℤ, pos, ◌+◌, ◌<◌, ◌≤◌, ◌^◌, ◌+ℤ◌, ◌-ℤ◌, ◌<ℤ◌, ◌≤ℤ◌, ◌≡◌, ◌↔◌, ◌⊎◌, inl, inr, ⊎_elim, refl, sym, arith, unsigned_abs, Bool, true, false, ◌&&◌, ◌||◌, nat_le, nat_lt, int_le, List, [], ◌∷◌, ◌++◌}
+use Rattle.std.proofs.Common.{ℕ, ℤ, pos, ◌<◌, ◌≤◌, ◌^◌, ◌+ℤ◌, ◌-ℤ◌, ◌≤ℤ◌, ◌≡◌, ◌↔◌, ◌⊎◌, inl, inr, ⊎_elim, refl, sym, arith, unsigned_abs, Bool, true, false, ◌&&◌, ◌||◌, nat_le, nat_lt, int_le, [], ◌∷◌, ◌++◌}
 use Rattle.std.proofs.lemmas.Int.{ints}
 use Rattle.std.proofs.lemmas.Bool.Decides.{nat_tests}
 use Rattle.fix_math.specs.declared.fix.V3.{V3}

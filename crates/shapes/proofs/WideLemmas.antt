@@ -1,5 +1,5 @@
 -- Sums of products with the coordinates of a ray: their sizes and values.
-use Rattle.std.proofs.Common.{ℕ, ℤ, pos, ◌+◌, ◌≤◌, ◌^◌, ◌+ℤ◌, ◌-ℤ◌, ◌*ℤ◌, ◌<ℤ◌, ◌≤ℤ◌, ◌≡◌, ◌↔◌, arith, unsigned_abs, FitsSigned}
+use Rattle.std.proofs.Common.{ℤ, ◌≤◌, ◌^◌, ◌+ℤ◌, ◌*ℤ◌, ◌≡◌, arith, unsigned_abs, FitsSigned}
 use Rattle.std.proofs.lemmas.Int.{ints, fits_signed_from_abs}
 use mir.Syntax.{w128}
 use Rattle.fix_math.specs.Order.{mul-within}

@@ -3,7 +3,6 @@ use Rattle.std.specs.Prelude.{ℕ, ℤ, pos, ◌+ℤ◌, ◌-ℤ◌, ◌*ℤ◌}
 use Rattle.shapes.specs.Bends.{HasBend, HasBend-add, HasBend-sub, HasBend-constant, HasBend-product, HasBend-line, HasBend-times, line_at}
 use Rattle.shapes.specs.Lines.{wide_at}
 use Rattle.shapes.specs.Spheres.{square}
-use Rattle.fix_math.specs.declared.fix.V3.{V3}
 use Rattle.shapes.specs.Bodies.{terms_at}
 use Rattle.shapes.specs.Lines.{sight_at}
 use Rattle.shapes.specs.declared.conic.Terms.{Terms}

@@ -1,7 +1,7 @@
 -- The faces of solids, each as a test of a point of the world. A solid holds where all its faces do.
 -- (Reference manual, finite solid primitives, infinite solid primitives)
 use lib.Dec.{leb}
-use Rattle.std.specs.Prelude.{ℕ, ℤ, pos, ◌+ℤ◌, ◌-ℤ◌, ◌*ℤ◌, ◌+◌, ◌-◌, ◌^◌, ◌≤◌, ◌<◌, ◌≡◌, Bool, true, false, ◌&&◌, not, List, [], ◌∷◌, ◌++◌, max, unsigned_abs, nat_le, nat_lt, int_le, if◌then◌else◌, slice_get, Some}
+use Rattle.std.specs.Prelude.{ℕ, ℤ, pos, ◌+ℤ◌, ◌-ℤ◌, ◌*ℤ◌, ◌+◌, ◌-◌, ◌^◌, Bool, ◌&&◌, List, [], ◌∷◌, ◌++◌, unsigned_abs, nat_le, nat_lt, int_le, if◌then◌else◌, Some, Option, None}
 use Rattle.std.specs.List.{list_all}
 use Rattle.std.specs.Int.{int_max}
 use Rattle.fix_math.specs.declared.fix.V3.{V3}
@@ -12,7 +12,7 @@ use Rattle.fix_math.specs.Vectors.{dot, dot_of}
 use Rattle.xform.specs.declared.transform.Spot.{Spot}
 use Rattle.xform.specs.declared.transform.Xform.{Xform}
 use Rattle.scene_model.specs.declared.shape.Leaf.{Leaf}
-use Rattle.scene_model.specs.declared.shape.Prim.{Prim}
+use Rattle.scene_model.specs.declared.shape.Primitive.{Primitive}
 use Rattle.shapes.specs.Rays.{Position}
 use Rattle.shapes.specs.Spheres.{square, offset_from}
 
@@ -110,15 +110,15 @@ quadric_at q u =
 
 -- ---- the faces
 
-abbrev pub faces_at : Prim → Xform → Spot → V3 → List Bool
-faces_at (Prim.Sphere r) x spot u = in_ball (long spot r) (own spot u) ∷ []
-faces_at (Prim.Box size) x spot u =
+abbrev pub faces_at : Primitive → Xform → Spot → V3 → List Bool
+faces_at (Primitive.Sphere r) x spot u = in_ball (long spot r) (own spot u) ∷ []
+faces_at (Primitive.Box size) x spot u =
     ends (long spot size.x) (own spot u).x ++ (ends (long spot size.y) (own spot u).y ++ ends (long spot size.z) (own spot u).z)
-faces_at (Prim.Plane normal d) x spot u = int_le (dot_of normal (own spot u)) (d *ℤ pos (2 ^ (spot.e + 32))) ∷ []
-faces_at (Prim.Cylinder r h uncapped) x spot u = in_pipe (long spot r) (own spot u) ∷ ends (long spot h) (own spot u).z
-faces_at (Prim.Cone ra rb h axis uncapped) x spot u =
+faces_at (Primitive.Plane normal d) x spot u = int_le (dot_of normal (own spot u)) (d *ℤ pos (2 ^ (spot.e + 32))) ∷ []
+faces_at (Primitive.Cylinder r h uncapped) x spot u = in_pipe (long spot r) (own spot u) ∷ ends (long spot h) (own spot u).z
+faces_at (Primitive.Cone ra rb h axis uncapped) x spot u =
     in_taper (long spot (int_max ra rb)) (radius_at ra rb h axis x spot u) (own spot u) ∷ ends (long spot h) (own spot u).z
-faces_at (Prim.Quadric c) x spot u = int_le (quadric_at (quadric_of c x) u) (pos 0) ∷ []
+faces_at (Primitive.Quadric c) x spot u = int_le (quadric_at (quadric_of c x) u) (pos 0) ∷ []
 
 -- whether each face of a leaf's solid holds at a point of the world
 abbrev pub faces_of : Leaf → Position → List Bool
@@ -128,7 +128,10 @@ faces_of leaf p = faces_at leaf.prim leaf.xform leaf.spot (seen_from leaf.spot.a
 abbrev pub all_hold : List Bool → Bool
 all_hold faces = list_all (λ b. b) faces
 
--- the first face that doesn't
-pub record IsFirstFailing (faces : List Bool) (n : ℕ) : Type 0 where
-  pub fails : slice_get faces n ≡ Some false
-  pub before : (k : ℕ) → k < n → slice_get faces k ≡ Some true
+-- the number of the first face that doesn't; faces are numbered from n on
+abbrev pub first_failing_from : ℕ → List Bool → Option ℕ
+first_failing_from n [] = None
+first_failing_from n (holds ∷ faces) = if holds then first_failing_from (n + 1) faces else Some n
+
+abbrev pub first_failing : List Bool → Option ℕ
+first_failing faces = first_failing_from 0 faces

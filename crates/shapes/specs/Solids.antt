@@ -1,7 +1,7 @@
 -- The faces of the solids of leaves.
 use Rattle.std.specs.Prelude.{List, Bool, ◌≡◌, ℤ}
 use Rattle.scene_model.specs.declared.shape.Leaf.{Leaf}
-use Rattle.scene_model.specs.declared.shape.Prim.{Prim}
+use Rattle.scene_model.specs.declared.shape.Primitive.{Primitive}
 use Rattle.shapes.specs.Bodies.{globe_faces, cuboid_faces, half_space_faces, tube_faces, taper_faces, conic_faces}
 use Rattle.shapes.specs.Rays.{Position}
 use Rattle.shapes.specs.declared.solid.Body.{Body}
@@ -22,4 +22,4 @@ solid_faces solid p = body_faces solid.body p
 
 -- the leaf is a quadric
 abbrev pub IsQuadricLeaf : Leaf → Type 0
-IsQuadricLeaf leaf = (c : List ℤ) × (leaf.prim ≡ Prim.Quadric c)
+IsQuadricLeaf leaf = (c : List ℤ) × (leaf.prim ≡ Primitive.Quadric c)

@@ -5,6 +5,7 @@ ghost use Rattle.fix_math.specs.Matrices.{IsVectorWithin};
 use crate::curve::Curve;
 use crate::parts::{Stretches, parts};
 use crate::path::Path;
+use crate::ray::Point;
 use crate::sight::Sight;
 use crate::span::{Line, Span};
 use fix_math::V3;
@@ -217,9 +218,9 @@ impl Curve for Bowl {
 
 impl Conic {
     ghost use Rattle.shapes.specs.Bodies.{conic_faces};
-    ghost use Rattle.shapes.specs.Faces.{all_hold};
+    ghost use Rattle.shapes.specs.Faces.{all_hold, first_failing};
     ghost use Rattle.shapes.specs.Lines.{is_in_stretches};
-    ghost use Rattle.shapes.specs.Rays.{point_at};
+    ghost use Rattle.shapes.specs.Rays.{IsInWorld, point_at, position_of};
 
     /// The numbers of the path in the quadric.
     #[inline(never)]
@@ -237,5 +238,18 @@ impl Conic {
             end: path.end,
         };
         parts(&bowl, whole)
+    }
+
+    /// The first face that doesn't hold at a point; none where the quadric holds there.
+    pub fn failing_face(&self, p: &Point) -> Option<u8>
+        requires { IsInWorld (position_of p.now) }
+        ensures { result ≡ first_failing (conic_faces self.now (position_of p.now)) }
+    {
+        let sight = Sight::of_point(&self.anchor, p);
+        let bowl = Bowl {
+            terms: self.terms,
+            sight,
+        };
+        if bowl.at(0) <= 0 { None } else { Some(0) }
     }
 }

@@ -7,6 +7,7 @@ ghost use Rattle.shapes.specs.Rays.{point_at};
 use crate::axes::Axes;
 use crate::parts::Stretches;
 use crate::path::Path;
+use crate::ray::Point;
 use crate::sight::Sight;
 use crate::span::Span;
 use crate::wide::Length;
@@ -21,6 +22,8 @@ pub struct Cuboid {
 }
 
 impl Cuboid {
+    ghost use Rattle.shapes.specs.Faces.{first_failing};
+    ghost use Rattle.shapes.specs.Rays.{IsInWorld, position_of};
     ghost use Rattle.shapes.specs.Bodies.{cuboid_faces};
 
     /// The numbers of the path in the box.
@@ -40,5 +43,31 @@ impl Cuboid {
         let along_y = y.between_ends(self.y, along_x);
         let z = self.axes.third.along(&sight);
         z.between_ends(self.z, along_y).alone()
+    }
+
+    /// The first face that doesn't hold at a point; none where the box holds there.
+    pub fn failing_face(&self, p: &Point) -> Option<u8>
+        requires { IsInWorld (position_of p.now) }
+        ensures { result ≡ first_failing (cuboid_faces self.now (position_of p.now)) }
+    {
+        let sight = Sight::of_point(&self.axes.anchor, p);
+        let x = self.axes.first.along(&sight).value(0);
+        let y = self.axes.second.along(&sight).value(0);
+        let z = self.axes.third.along(&sight).value(0);
+        if x < 0 {
+            Some(0)
+        } else if x > self.x.value as i128 {
+            Some(1)
+        } else if y < 0 {
+            Some(2)
+        } else if y > self.y.value as i128 {
+            Some(3)
+        } else if z < 0 {
+            Some(4)
+        } else if z > self.z.value as i128 {
+            Some(5)
+        } else {
+            None
+        }
     }
 }

@@ -5,6 +5,7 @@ ghost use Rattle.fix_math.specs.Matrices.{IsVectorWithin};
 use crate::axes::WideForm;
 use crate::parts::Stretches;
 use crate::path::Path;
+use crate::ray::Point;
 use crate::sight::Sight;
 use crate::span::Span;
 use crate::wide::Limit;
@@ -21,6 +22,8 @@ pub struct HalfSpace {
 }
 
 impl HalfSpace {
+    ghost use Rattle.shapes.specs.Faces.{first_failing};
+    ghost use Rattle.shapes.specs.Rays.{IsInWorld, position_of};
     ghost use Rattle.shapes.specs.Bodies.{half_space_faces};
     ghost use Rattle.shapes.specs.Faces.{all_hold};
     ghost use Rattle.shapes.specs.Lines.{is_in_stretches};
@@ -39,5 +42,19 @@ impl HalfSpace {
         };
         let above = self.row.along(&sight).less_limit(self.limit);
         whole.narrow_wide(&above).alone()
+    }
+
+    /// The first face that doesn't hold at a point; none where the half holds there.
+    pub fn failing_face(&self, p: &Point) -> Option<u8>
+        requires { IsInWorld (position_of p.now) }
+        ensures { result ≡ first_failing (half_space_faces self.now (position_of p.now)) }
+    {
+        let sight = Sight::of_point(&self.anchor, p);
+        let above = self.row.along(&sight).value(0);
+        if above <= self.limit.value {
+            None
+        } else {
+            Some(0)
+        }
     }
 }

@@ -14,10 +14,28 @@ pub struct Stretches {
     pub two: Span,
 }
 
-ghost use Rattle.shapes.specs.Lines.{IsWithin, IsInStretches};
+ghost use Rattle.shapes.specs.Lines.{IsWithin, IsInStretches, is_in_span, is_in_stretches};
 ghost use Rattle.shapes.specs.Bends.{HasBend};
 
+impl Stretches {
+    /// Whether a number is in one of the stretches.
+    #[inline]
+    pub fn has(&self, t: u64) -> bool
+        ensures { result ≡ is_in_stretches self.now t }
+    {
+        self.one.has(t) || self.two.has(t)
+    }
+}
+
 impl Span {
+    /// Whether a number is in the span.
+    #[inline]
+    pub fn has(self, t: u64) -> bool
+        ensures { result ≡ is_in_span self t }
+    {
+        self.from <= t && t < self.end
+    }
+
     /// The span alone.
     #[inline]
     pub fn alone(self) -> Stretches

@@ -8,9 +8,10 @@ use crate::half_space::HalfSpace;
 use crate::making::{cuboid, globe, half_space, taper, tube};
 use crate::parts::Stretches;
 use crate::path::Path;
+use crate::ray::Point;
 use crate::taper::Taper;
 use crate::tube::Tube;
-use scene_model::{Leaf, Prim};
+use scene_model::{Leaf, Primitive};
 
 /// What a leaf is a part of the world by, ready to be met by rays: all that depends on the leaf alone is
 /// computed. Its faces are numbered as the leaf's: a sphere, a plane and a quadric have face 0 alone, a box
@@ -33,9 +34,9 @@ enum Body {
 
 impl Solid {
     ghost use Rattle.scene_model.specs.Solids.{IsLeaf};
-    ghost use Rattle.shapes.specs.Faces.{all_hold, faces_of};
+    ghost use Rattle.shapes.specs.Faces.{all_hold, faces_of, first_failing};
     ghost use Rattle.shapes.specs.Lines.{is_in_stretches};
-    ghost use Rattle.shapes.specs.Rays.{Position, point_at};
+    ghost use Rattle.shapes.specs.Rays.{IsInWorld, Position, point_at, position_of};
     ghost use Rattle.shapes.specs.Solids.{solid_faces, IsQuadricLeaf};
 
     /// The solid of a leaf; none exactly where the leaf is a quadric, whose coefficients aren't made yet.
@@ -46,19 +47,19 @@ impl Solid {
     {
         let spot = &leaf.spot;
         match leaf.prim {
-            Prim::Sphere { r } => Some(Solid {
+            Primitive::Sphere { r } => Some(Solid {
                 body: Body::Ball(globe(spot, r)),
             }),
-            Prim::Box { size } => Some(Solid {
+            Primitive::Box { size } => Some(Solid {
                 body: Body::Block(cuboid(spot, &size)),
             }),
-            Prim::Plane { normal, d } => Some(Solid {
+            Primitive::Plane { normal, d } => Some(Solid {
                 body: Body::Half(half_space(spot, &normal, d)),
             }),
-            Prim::Cylinder { r, h, uncapped: _ } => Some(Solid {
+            Primitive::Cylinder { r, h, uncapped: _ } => Some(Solid {
                 body: Body::Pipe(tube(spot, r, h)),
             }),
-            Prim::Cone {
+            Primitive::Cone {
                 ra,
                 rb,
                 h,
@@ -67,7 +68,7 @@ impl Solid {
             } => Some(Solid {
                 body: Body::Cone(taper(&leaf.xform, spot, ra, rb, h, &axis)),
             }),
-            Prim::Quadric { c: _ } => None,
+            Primitive::Quadric { c: _ } => None,
         }
     }
 
@@ -83,6 +84,21 @@ impl Solid {
             Body::Pipe(tube) => tube.stretches(path),
             Body::Cone(taper) => taper.stretches(path),
             Body::Bowl(conic) => conic.stretches(path),
+        }
+    }
+
+    /// The first face that doesn't hold at a point; none where the solid holds there.
+    pub fn failing_face(&self, p: &Point) -> Option<u8>
+        requires { IsInWorld (position_of p.now) }
+        ensures { result ≡ first_failing (solid_faces self.now (position_of p.now)) }
+    {
+        match &self.body {
+            Body::Ball(globe) => globe.failing_face(p),
+            Body::Block(cuboid) => cuboid.failing_face(p),
+            Body::Half(half) => half.failing_face(p),
+            Body::Pipe(tube) => tube.failing_face(p),
+            Body::Cone(taper) => taper.failing_face(p),
+            Body::Bowl(conic) => conic.failing_face(p),
         }
     }
 }

@@ -9,6 +9,7 @@ use crate::curve::Curve;
 use crate::measure::less_square;
 use crate::parts::{Stretches, parts};
 use crate::path::Path;
+use crate::ray::Point;
 use crate::sight::Sight;
 use crate::span::Span;
 use crate::wide::{Length, WideLine};
@@ -52,6 +53,8 @@ impl Curve for Pipe {
 }
 
 impl Tube {
+    ghost use Rattle.shapes.specs.Faces.{first_failing};
+    ghost use Rattle.shapes.specs.Rays.{IsInWorld, position_of};
     ghost use Rattle.shapes.specs.Bodies.{tube_faces, own_of};
     ghost use Rattle.shapes.specs.Faces.{in_pipe};
     ghost use Rattle.shapes.specs.Lines.{IsInStretches, IsWithin, sight_at};
@@ -89,5 +92,32 @@ impl Tube {
             radius: self.radius,
         };
         parts(&pipe, along_y)
+    }
+
+    /// Whether face 0 holds at the first point of a sight.
+    fn is_in_shell(&self, sight: &Sight) -> bool
+        ensures { result ≡ in_pipe self.now.radius.value (own_of self.now.axes (sight_at sight.now 0)) }
+    {
+        let span = Span { from: 0, end: 1 };
+        self.shell(sight, span).has(0)
+    }
+
+    /// The first face that doesn't hold at a point; none where the cylinder holds there.
+    pub fn failing_face(&self, p: &Point) -> Option<u8>
+        requires { IsInWorld (position_of p.now) }
+        ensures { result ≡ first_failing (tube_faces self.now (position_of p.now)) }
+    {
+        let sight = Sight::of_point(&self.axes.anchor, p);
+        if !self.is_in_shell(&sight) {
+            return Some(0);
+        }
+        let z = self.axes.third.along(&sight).value(0);
+        if z < 0 {
+            Some(1)
+        } else if z > self.height.value as i128 {
+            Some(2)
+        } else {
+            None
+        }
     }
 }
