@@ -6,6 +6,8 @@ mod expressions;
 #[cfg(test)]
 mod failures;
 #[cfg(test)]
+mod folders;
+#[cfg(test)]
 mod memory;
 #[cfg(test)]
 mod rig;
