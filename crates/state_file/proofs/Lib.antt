@@ -13,4 +13,5 @@ pub mod Products
 pub mod Shapes
 pub mod Steps
 pub mod Taken
+pub mod Through
 pub mod Todo

@@ -16,3 +16,15 @@ abbrev pub IsAttached : Layout → Bool → List ℕ → List ℕ → Attached �
 IsAttached l resume image c Fresh = resume ≡ true → ¬ (IsOpenFile c)
 IsAttached l resume image c Loaded = (resume ≡ true) × IsThisFrame l c × (image ≡ c)
 IsAttached l resume image c (Other place kept) = (resume ≡ true) × IsOther l c place kept
+
+-- it was made anew
+abbrev pub IsRenewed : Attached → Type 0
+IsRenewed Fresh = Unit {0}
+IsRenewed Loaded = ⊥
+IsRenewed (Other place kept) = ⊥
+
+-- it is another frame's
+abbrev pub IsForeign : Attached → Type 0
+IsForeign Fresh = ⊥
+IsForeign Loaded = ⊥
+IsForeign (Other place kept) = Unit {0}

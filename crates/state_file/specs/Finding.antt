@@ -21,3 +21,9 @@ abbrev pub IsFound : Layout → Bool → List ℕ → Found → Type 0
 IsFound l resume c (New size gate) = IsNew resume c size gate
 IsFound l resume c (Other place kept) = (resume ≡ true) × IsOther l c place kept
 IsFound l resume c Same = (resume ≡ true) × IsThisFrame l c
+
+-- it is made anew
+abbrev pub IsAnew : Found → Type 0
+IsAnew (New size gate) = Unit {0}
+IsAnew (Other place kept) = ⊥
+IsAnew Same = ⊥

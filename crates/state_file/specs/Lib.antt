@@ -5,6 +5,7 @@ pub mod Frames
 pub mod Layout
 pub mod Lines
 pub mod Marks
+pub mod Opened
 pub mod Opening
 pub mod Order
 pub mod Pens

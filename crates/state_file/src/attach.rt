@@ -1,8 +1,8 @@
 // A state file looked at, and made anew or read.
-ghost use Rattle.std.specs.Prelude.{◌≡◌, ◌+◌, ◌<◌, ◌≤◌, ℕ, List, length, slice_index, IfOk, IsErr, Bool, true};
+ghost use Rattle.std.specs.Prelude.{◌≡◌, ◌+◌, ◌<◌, ◌≤◌, ℕ, List, length, slice_index, IfOk, IsErr, Bool, true, false};
 ghost use Rattle.shelf.specs.Causes.{HasCause};
-ghost use Rattle.shelf.specs.Disk.{SameSlots, name_at};
-ghost use Rattle.state_file.specs.Attaching.{IsAttached, IsLeft};
+ghost use Rattle.shelf.specs.Disk.{SameContents, SameSlots, name_at};
+ghost use Rattle.state_file.specs.Attaching.{IsAttached, IsForeign, IsLeft, IsRenewed};
 ghost use Rattle.state_file.specs.Frames.{layout};
 ghost use Rattle.state_file.specs.Layout.{IsAcknowledged, IsOpenBlock};
 ghost use Rattle.state_file.specs.Opening.{IsMade, Ran, Read};
@@ -45,6 +45,10 @@ pub(crate) fn attach<S: Shelf>(
         S.images shelf.new (S.moment shelf.new) (name_at (S.slots shelf.old slot)) c → IsLeft (layout frame.now) image.new c attached) }
     ensures read { IfOk result (λ attached. Read (S.holds shelf.old (name_at (S.slots shelf.old slot)))
         (λ c. IsAttached (layout frame.now) resume image.new c attached)) }
+    ensures anew { IfOk result (λ attached. resume ≡ false → IsRenewed attached) }
+    ensures foreign { IfOk result (λ attached. IsForeign attached →
+        SameContents (S.images shelf.old (S.moment shelf.old)) (S.images shelf.new (S.moment shelf.new))) }
+    ensures same { IfOk result (λ attached. IsForeign attached → SameContents (S.holds shelf.old) (S.holds shelf.new)) }
     ensures ran { Ran S.moment S.images (name_at (S.slots shelf.old slot)) (IsMade (layout frame.now)
         (S.images shelf.old (S.moment shelf.old) (name_at (S.slots shelf.old slot)))) shelf.old shelf.new }
     ensures kept { resume ≡ true → (b : ℕ) →

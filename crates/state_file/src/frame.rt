@@ -128,7 +128,7 @@ fn before(g: &Geometry, block: u32) -> u64
     above + left
 }
 
-fn picture_size(g: &Geometry) -> u64
+pub(crate) fn picture_size(g: &Geometry) -> u64
     requires { IsInLimits g.now }
     ensures value { result ≡ picture_bytes g.now }
     ensures most { result ≤ 6 * 2 ^ 24 }

@@ -83,7 +83,7 @@ fn take_block(frame: &Frame, image: &[u8], index: u32, marks: &mut [Mark], pictu
 }
 
 /// Takes over each block whose gate stands open, over marks that are all shut and a blank picture.
-pub(crate) fn take_blocks(frame: &Frame, image: &[u8], marks: &mut [Mark], picture: &mut [u8])
+fn take_blocks(frame: &Frame, image: &[u8], marks: &mut [Mark], picture: &mut [u8])
     requires image { length image.now ≡ (layout frame.now).all }
     requires marked { length marks.old ≡ (layout frame.now).count }
     requires drawn { length picture.old ≡ (layout frame.now).picture }
@@ -93,4 +93,17 @@ pub(crate) fn take_blocks(frame: &Frame, image: &[u8], marks: &mut [Mark], pictu
     for index in 0..frame.count() {
         take_block(frame, image, index, marks, picture);
     }
+}
+
+/// The same over marks and a picture that own their memory.
+pub(crate) fn take_in(frame: &Frame, image: &[u8], marks: &mut Vec<Mark>, picture: &mut Vec<u8>)
+    requires image { length image.now ≡ (layout frame.now).all }
+    requires marked { length marks.old.items ≡ (layout frame.now).count }
+    requires drawn { length picture.old.items ≡ (layout frame.now).picture }
+    requires start { IsTaken (layout frame.now) image.now 0 marks.old.items picture.old.items }
+    ensures taken { IsTaken (layout frame.now) image.now (layout frame.now).count marks.new.items picture.new.items }
+    ensures marked { length marks.new.items ≡ length marks.old.items }
+    ensures drawn { length picture.new.items ≡ length picture.old.items }
+{
+    take_blocks(frame, image, marks, picture);
 }

@@ -2,7 +2,7 @@
 ghost use Rattle.std.specs.Prelude.{◌≡◌, ◌≢◌, ◌+◌, ◌-◌, ◌<◌, ◌≤◌, ℕ, List, length, slice_index, min, OnOk, IfOk, IfSome, IfNone, IsErr, IsSome, IsTrue, true, false};
 ghost use Rattle.shelf.specs.Causes.{HasCause};
 ghost use Rattle.shelf.specs.Disk.{SameContents, SameSlots, Tells, Within, name_at};
-ghost use Rattle.state_file.specs.Finding.{IsFound, IsFront};
+ghost use Rattle.state_file.specs.Finding.{IsAnew, IsFound, IsFront};
 ghost use Rattle.state_file.specs.Frames.{layout};
 ghost use Rattle.state_file.specs.Opening.{Ran};
 ghost use Rattle.state_file.specs.Order.{HasRoom};
@@ -94,7 +94,8 @@ fn judge(front: &[u8], size: u64, frame: &Frame, fresh: &[u8], resume: bool) -> 
     requires room { length fresh.now ≡ (layout frame.now).all }
     requires head { (k : ℕ) → k < length (layout frame.now).head →
         slice_index fresh.now (1 + k) ≡ slice_index (layout frame.now).head k }
-    ensures { (c : List ℕ) → IsFront front.now size c → IsFound (layout frame.now) resume c result }
+    ensures found { (c : List ℕ) → IsFront front.now size c → IsFound (layout frame.now) resume c result }
+    ensures anew { resume ≡ false → IsAnew result }
 {
     if is_new(front, resume) {
         let gate = gate_of(front);
@@ -120,6 +121,7 @@ pub(crate) fn look<S: Shelf>(
     requires front { length front.old ≡ (layout frame.now).gates }
     ensures found { IfOk result (λ found. (c : List ℕ) → S.holds shelf.new (name_at (S.slots shelf.old slot)) c →
         IsFound (layout frame.now) resume c found) }
+    ensures anew { IfOk result (λ found. resume ≡ false → IsAnew found) }
     ensures synced { OnOk result (Within (S.holds shelf.new (name_at (S.slots shelf.old slot)))
         (S.images shelf.new (S.moment shelf.new) (name_at (S.slots shelf.old slot)))) }
     ensures contents { SameContents (S.holds shelf.old) (S.holds shelf.new) }

@@ -18,7 +18,7 @@ returns-clause-found g c = λ d h.
     let h0 = subst (λ n. g.S.Shelf.holds c.args.shelf.now n d) same (c.length.ensures.contents _ d h1) in
     let long = c.in_ok-size.ensures.value d h0 in
     let bytes = c.in_ok-read_synced.ensures.value d h' in
-    c.judge.ensures d (record {
+    c.judge.ensures.found d (record {
       long = sym long;
       bytes =
           subst (λ o. (k : ℕ) → k < length o → slice_index o k ≡ slice_index d k)
