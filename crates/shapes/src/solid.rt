@@ -20,6 +20,7 @@ use scene_model::{Leaf, Primitive};
 #[derive(Clone, Copy)]
 pub struct Solid {
     body: Body,
+    uncapped: bool,
 }
 
 #[derive(Clone, Copy)]
@@ -37,36 +38,42 @@ impl Solid {
     ghost use Rattle.shapes.specs.Faces.{all_hold, faces_of, first_failing};
     ghost use Rattle.shapes.specs.Lines.{is_in_stretches};
     ghost use Rattle.shapes.specs.Rays.{IsInWorld, Position, point_at, position_of};
-    ghost use Rattle.shapes.specs.Solids.{solid_faces, IsQuadricLeaf};
+    ghost use Rattle.shapes.specs.Solids.{solid_faces, solid_side, is_uncapped, IsQuadricLeaf};
 
     /// The solid of a leaf; none exactly where the leaf is a quadric, whose coefficients aren't made yet.
     pub fn of(leaf: &Leaf) -> Option<Solid>
         requires { IsLeaf leaf.now }
         ensures faces { IfSome result (λ solid. (p : Position) → solid_faces solid p ≡ faces_of leaf.now p) }
+        ensures ends { IfSome result (λ solid. solid.uncapped ≡ is_uncapped leaf.now.prim) }
         ensures none { IsNone result ↔ IsQuadricLeaf leaf.now }
     {
         let spot = &leaf.spot;
         match leaf.prim {
             Primitive::Sphere { r } => Some(Solid {
                 body: Body::Ball(globe(spot, r)),
+                uncapped: false,
             }),
             Primitive::Box { size } => Some(Solid {
                 body: Body::Block(cuboid(spot, &size)),
+                uncapped: false,
             }),
             Primitive::Plane { normal, d } => Some(Solid {
                 body: Body::Half(half_space(spot, &normal, d)),
+                uncapped: false,
             }),
-            Primitive::Cylinder { r, h, uncapped: _ } => Some(Solid {
+            Primitive::Cylinder { r, h, uncapped } => Some(Solid {
                 body: Body::Pipe(tube(spot, r, h)),
+                uncapped,
             }),
             Primitive::Cone {
                 ra,
                 rb,
                 h,
                 axis,
-                uncapped: _,
+                uncapped,
             } => Some(Solid {
                 body: Body::Cone(taper(&leaf.xform, spot, ra, rb, h, &axis)),
+                uncapped,
             }),
             Primitive::Quadric { c: _ } => None,
         }
@@ -99,6 +106,30 @@ impl Solid {
             Body::Pipe(tube) => tube.failing_face(p),
             Body::Cone(taper) => taper.failing_face(p),
             Body::Bowl(conic) => conic.failing_face(p),
+        }
+    }
+
+    /// Whether the ends of the cylinder or cone are open, so that its side alone is a surface.
+    #[inline]
+    pub fn is_open(&self) -> bool
+        ensures { result ≡ self.now.uncapped }
+    {
+        self.uncapped
+    }
+
+    /// The numbers of the path at which the side of a cylinder or cone holds, whatever its ends; of another
+    /// solid, those at which it holds.
+    pub fn side(&self, path: &Path) -> Stretches
+        ensures { (t : ℕ) → is_in_stretches result t
+            ≡ (nat_lt t path.now.end && all_hold (solid_side self.now (point_at path.now.ray t))) }
+    {
+        match &self.body {
+            Body::Ball(globe) => globe.stretches(path),
+            Body::Block(cuboid) => cuboid.stretches(path),
+            Body::Half(half) => half.stretches(path),
+            Body::Pipe(tube) => tube.side(path),
+            Body::Cone(taper) => taper.side(path),
+            Body::Bowl(conic) => conic.stretches(path),
         }
     }
 }

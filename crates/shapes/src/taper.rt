@@ -1,5 +1,5 @@
 // Cones.
-ghost use Rattle.std.specs.Prelude.{◌≡◌, ◌↔◌, ℕ, ◌<◌, ◌^◌, ◌&&◌, nat_lt, true};
+ghost use Rattle.std.specs.Prelude.{◌≡◌, ◌↔◌, ℕ, ◌<◌, ◌^◌, ◌&&◌, nat_lt, true, List, [], ◌∷◌};
 ghost use Rattle.shapes.specs.Faces.{all_hold};
 ghost use Rattle.shapes.specs.Lines.{is_in_stretches};
 ghost use Rattle.shapes.specs.Rays.{point_at};
@@ -57,7 +57,7 @@ impl Curve for Funnel {
 }
 
 impl Taper {
-    ghost use Rattle.shapes.specs.Faces.{first_failing};
+    ghost use Rattle.shapes.specs.Faces.{first_failing, seen_from};
     ghost use Rattle.shapes.specs.Rays.{IsInWorld, position_of};
     ghost use Rattle.shapes.specs.Bodies.{taper_faces, taper_radius, own_of};
     ghost use Rattle.shapes.specs.Faces.{in_taper};
@@ -126,5 +126,15 @@ impl Taper {
         } else {
             None
         }
+    }
+
+    /// The numbers of the path that are in the solid's side, whatever its ends.
+    #[inline(never)]
+    pub fn side(&self, path: &Path) -> Stretches
+        ensures { (t : ℕ) → is_in_stretches result t ≡ (nat_lt t path.now.end && all_hold (in_taper self.now.widest.value (taper_radius self.now (seen_from self.now.axes.anchor (point_at path.now.ray t))) (own_of self.now.axes (seen_from self.now.axes.anchor (point_at path.now.ray t))) ∷ [])) }
+    {
+        let sight = Sight::of_path(&self.axes.anchor, path);
+        let end = path.end;
+        self.shell(&sight, Span { from: 0, end })
     }
 }

@@ -1,5 +1,5 @@
 // Cylinders.
-ghost use Rattle.std.specs.Prelude.{◌≡◌, ◌↔◌, ℕ, ◌<◌, ◌^◌, ◌&&◌, nat_lt, true};
+ghost use Rattle.std.specs.Prelude.{◌≡◌, ◌↔◌, ℕ, ◌<◌, ◌^◌, ◌&&◌, nat_lt, true, List, [], ◌∷◌};
 ghost use Rattle.shapes.specs.Faces.{all_hold};
 ghost use Rattle.shapes.specs.Lines.{is_in_stretches};
 ghost use Rattle.shapes.specs.Rays.{point_at};
@@ -53,7 +53,7 @@ impl Curve for Pipe {
 }
 
 impl Tube {
-    ghost use Rattle.shapes.specs.Faces.{first_failing};
+    ghost use Rattle.shapes.specs.Faces.{first_failing, seen_from};
     ghost use Rattle.shapes.specs.Rays.{IsInWorld, position_of};
     ghost use Rattle.shapes.specs.Bodies.{tube_faces, own_of};
     ghost use Rattle.shapes.specs.Faces.{in_pipe};
@@ -119,5 +119,15 @@ impl Tube {
         } else {
             None
         }
+    }
+
+    /// The numbers of the path that are in the solid's side, whatever its ends.
+    #[inline(never)]
+    pub fn side(&self, path: &Path) -> Stretches
+        ensures { (t : ℕ) → is_in_stretches result t ≡ (nat_lt t path.now.end && all_hold (in_pipe self.now.radius.value (own_of self.now.axes (seen_from self.now.axes.anchor (point_at path.now.ray t))) ∷ [])) }
+    {
+        let sight = Sight::of_path(&self.axes.anchor, path);
+        let end = path.end;
+        self.shell(&sight, Span { from: 0, end })
     }
 }
