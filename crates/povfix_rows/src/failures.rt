@@ -167,25 +167,3 @@ fn long_texts_are_refused_before_they_are_read(rt: HostRuntime) -> Result<(), Fa
     }
     Ok(())
 }
-
-/// Once all is done a crash leaves the picture, whichever of its images is picked.
-#[test]
-fn a_crash_after_the_run_leaves_the_picture(rt: HostRuntime) -> Result<(), Fail> {
-    let alloc = rt.alloc();
-    let picks: [&[u8]; 4] = [
-        b"",
-        b"\0",
-        b"\x01\x02\x03",
-        b"\xff\xff\xff\xff\xff\xff\xff\xff",
-    ];
-    for pick in picks {
-        let left = rendered(&rt, alloc, &["a.pov", "+W1", "+H1"], &[("a.pov", TEXT)])?;
-        let outcome = left.outcome;
-        let shelf = outcome.shelf.crash(pick);
-        assert_eq!(&rt;
-            shelf.contents(b"a.ppm"),
-            b"P6\n1 1\n255\n\0\xff\0".as_slice()
-        );
-    }
-    Ok(())
-}
