@@ -1,5 +1,5 @@
 // A state file made anew, in three steps.
-ghost use Rattle.std.specs.Prelude.{◌≡◌, ◌≢◌, ◌+◌, ◌<◌, ◌≤◌, ℕ, List, length, slice_index, max, min, OnOk, IsErr};
+ghost use Rattle.std.specs.Prelude.{◌≡◌, ◌≢◌, ◌+◌, ◌<◌, ◌≤◌, ℕ, List, length, slice_index, max, min, OnOk, IsErr, IsTrue, false};
 ghost use Rattle.shelf.specs.Causes.{HasCause};
 ghost use Rattle.shelf.specs.Disk.{SameSlots, Within, name_at};
 ghost use Rattle.state_file.specs.Frames.{layout};
@@ -8,6 +8,14 @@ ghost use Rattle.state_file.specs.Order.{HasRoom};
 
 use crate::frame::Frame;
 use shelf::{Failed, Shelf};
+
+/// Whether the file's gate is there, and closed.
+fn is_closed(size: u64, gate: u8) -> bool
+    ensures closed { IsTrue result → (0 < size) × (gate ≡ 0) }
+    ensures other { result ≡ false → 0 < size → gate ≢ 0 }
+{
+    size > 0 && gate == 0
+}
 
 /// Closes the file. A gate that is closed already isn't written, since until the sync it may hold
 /// anything.
@@ -31,7 +39,7 @@ fn shut<S: Shelf>(
     ensures cause { HasCause (S.faults shelf.old) (S.faults shelf.new) (IsErr result) }
 {
     let _ = frame;
-    if size > 0 && gate == 0 {
+    if is_closed(size, gate) {
         return Ok(());
     }
     shelf.write_at(slot, 0, &[0])?;
