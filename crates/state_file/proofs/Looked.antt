@@ -1,13 +1,13 @@
 -- What a file is after it was looked at.
-use Rattle.std.proofs.Common.{ℕ, ◌+◌, ◌≤◌, ◌≡◌, Bool, true, List, length, subst, inl, inr, arith}
+use Rattle.std.proofs.Common.{ℕ, ◌+◌, ◌≤◌, ◌≡◌, Bool, true, List, length, sym, ◌∙◌, subst, inl, inr, arith, slice_index}
 use Rattle.shelf.specs.Disk.{Images}
 use Rattle.shelf.specs.Moments.{Under}
 use Rattle.shelf.proofs.Steps as shelf_steps
 use Rattle.state_file.specs.declared.found.Found.{Found}
 use Rattle.state_file.specs.declared.found.Found.TheVariants.{New, Same}
 use Rattle.state_file.specs.Finding.{IsFound, IsNew}
-use Rattle.state_file.specs.Layout.{Layout, IsLaidOut, IsOpenFile, IsThisFrame, IsOpenBlock, IsAcknowledged}
-use Rattle.state_file.specs.Opening.{IsMade, Ran}
+use Rattle.state_file.specs.Layout.{Layout, IsLaidOut, IsOpenFile, IsThisFrame, IsOpenBlock, IsAcknowledged, IsHonest, IsOwn}
+use Rattle.state_file.specs.Opening.{IsMade, OnlyGate, Ran}
 
 -- a run that promises less
 pub ran_weaker : {S : Type 0} (moment : S → ℕ) (images : S → Images) (name : List ℕ) (P Q : List ℕ → Type 0) (old new : S)
@@ -51,3 +51,63 @@ not_new holds old images l ok b resume found size gate r a tells back law f e =
 pub same_found : (l : Layout) (resume : Bool) (c : List ℕ) (found : Found) → IsFound l resume c found → found ≡ Same
     → (resume ≡ true) × IsThisFrame l c
 same_found l resume c found f e = subst (λ x. IsFound l resume c x) e f
+
+-- a file whose gate alone is another byte is this frame's where the first one was, and the other way round
+back_file : (l : Layout) → IsLaidOut l → (d c : List ℕ) → OnlyGate d c → IsThisFrame l c → IsThisFrame l d
+back_file l ok d c og f =
+    let long : length c ≡ length d = og.long in
+    let all : length c ≡ l.all = f.long in
+    let h : 1 + length l.head ≡ l.gates = ok.head in
+    let g : l.gates + l.count ≤ l.all = ok.gates in
+    record {
+      long = sym og.long ∙ f.long;
+      gate = og.gate;
+      head = λ k hk. sym (og.rest (1 + k) (omega arith) (omega arith)) ∙ f.head k hk;
+    }
+
+on_file : (l : Layout) → IsLaidOut l → (d c : List ℕ) → OnlyGate d c → IsOpenFile c → IsThisFrame l d → IsThisFrame l c
+on_file l ok d c og o f =
+    let all : length d ≡ l.all = f.long in
+    let h : 1 + length l.head ≡ l.gates = ok.head in
+    let g : l.gates + l.count ≤ l.all = ok.gates in
+    record {
+      long = og.long ∙ f.long;
+      gate = o.gate;
+      head = λ k hk. og.rest (1 + k) (omega arith) (omega arith) ∙ f.head k hk;
+    }
+
+-- what comes of honest files is honest
+pub made_honest : (l : Layout) → IsLaidOut l → (picture : List ℕ) (before : List ℕ → Type 0)
+    → ((d : List ℕ) → before d → IsHonest l picture d) → (c : List ℕ) → IsMade l before c → IsHonest l picture c
+made_honest l ok picture before h c m = elim m [
+  | inl i ↦ h c i
+  | inr n ↦ elim n [
+    | inl blank ↦ λ b hb o. absurd (o.gate ((blank (open_file l ok b c o)).shut b hb))
+    | inr w ↦ λ b hb o k hk.
+        let d : List ℕ = w.0 in
+        let og : OnlyGate d c = w.2 in
+        let fd : IsThisFrame l d = back_file l ok d c og o.file in
+        let all : length d ≡ l.all = fd.long in
+        let wide : 2 ≤ l.gates = ok.wide in
+        let g : l.gates + l.count ≤ l.all = ok.gates in
+        let behind : l.gates + l.count ≤ l.pixels b = ok.behind b hb in
+        let inside : l.pixels b + l.size b ≤ l.all = ok.inside b hb in
+        let gate : slice_index c (l.gates + b) ≡ slice_index d (l.gates + b) = og.rest (l.gates + b) (omega arith) (omega arith) in
+        let here : slice_index c (l.pixels b + k) ≡ slice_index d (l.pixels b + k) = og.rest (l.pixels b + k) (omega arith) (omega arith) in
+        here ∙ h d w.1 b hb (record { file = fd; gate = λ z. o.gate (gate ∙ z) }) k hk
+  ]
+]
+
+-- what comes of own files is own
+pub made_own : (l : Layout) → IsLaidOut l → (before : List ℕ → Type 0) → ((d : List ℕ) → before d → IsOwn l d)
+    → (c : List ℕ) → IsMade l before c → IsOwn l c
+made_own l ok before h c m = elim m [
+  | inl i ↦ h c i
+  | inr n ↦ elim n [
+    | inl blank ↦ λ o. (blank o).file
+    | inr w ↦ λ o.
+        let long : length c ≡ length w.0 = w.2.long in
+        let two : 2 ≤ length c = o.long in
+        on_file l ok w.0 c w.2 o (h w.0 w.1 (record { long = omega arith; gate = w.2.gate }))
+  ]
+]

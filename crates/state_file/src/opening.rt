@@ -96,10 +96,8 @@ fn enter<S: Shelf>(
     }
 }
 
-/// Opens the state file of a frame, under a further slot: with `resume` it is continued where it
-/// stands open, else it is made anew. The file is synced before what was read of it counts. `name`
-/// is its name, `key` what the picture shows, and `g` its shape.
-pub fn open<S: Shelf>(
+/// Takes the memory, holds the file and enters it.
+fn begin<S: Shelf>(
     alloc: Global,
     shelf: S,
     name: &[u8],
@@ -149,4 +147,48 @@ pub fn open<S: Shelf>(
         Err(HoldFail::Failed) => Err((OpenFault::ShelfFault, shelf)),
         Err(HoldFail::NoMemory) => Err((OpenFault::NoMemory, shelf)),
     }
+}
+
+/// Opens the state file of a frame, under a further slot: with `resume` it is continued where it
+/// stands open, else it is made anew. The file is synced before what was read of it counts. `name`
+/// is its name, `key` what the picture shows, and `g` its shape.
+pub fn open<S: Shelf>(
+    alloc: Global,
+    shelf: S,
+    name: &[u8],
+    key: Vec<u8>,
+    g: Geometry,
+    resume: bool,
+) -> Result<Pen<S>, (OpenFault, S)>
+    requires limits { IsInLimits g }
+    requires short { vec_len key ≤ 2 ^ 25 }
+    requires free { IsFree (S.slots shelf) name.now }
+    ensures frame { IfOk result (λ pen. (pen.frame.geometry ≡ g) × (pen.frame.key ≡ key)) }
+    ensures failed { IfOk result (λ pen. pen.failed ≡ false) }
+    ensures held { IfOk result (λ pen. Holds (S.slots shelf) (S.slots pen.shelf) pen.slot name.now (layout_of g key.items).all) }
+    ensures read { IfOk result (λ pen. Read (S.holds shelf name.now) (λ c. IsReadAs resume pen c)) }
+    ensures nothing { IfOk result (λ pen. resume ≡ false → (b : ℕ) → ¬ (knows_open pen b)) }
+    ensures refused { IfErr result (λ e. IsRefused (layout_of g key.items) resume (S.holds shelf name.now) e.0) }
+    ensures foreign { IfErr result (λ e. IsForeignFault e.0 →
+        SameContents (S.images shelf (S.moment shelf)) (S.images e.1 (S.moment e.1))) }
+    ensures same { IfErr result (λ e. IsForeignFault e.0 → SameContents (S.holds shelf) (S.holds e.1)) }
+    ensures ran { MatchResult result
+        (λ pen. Ran S.moment S.images name.now (IsMade (layout_of g key.items) (S.images shelf (S.moment shelf) name.now)) shelf pen.shelf)
+        (λ e. Ran S.moment S.images name.now (IsMade (layout_of g key.items) (S.images shelf (S.moment shelf) name.now)) shelf e.1) }
+    ensures kept { resume ≡ true → (b : ℕ) →
+        IsAcknowledged (layout_of g key.items) b (S.holds shelf name.now) (S.images shelf (S.moment shelf) name.now) →
+        MatchResult result
+        (λ pen. Ran S.moment S.images name.now (IsOpenBlock (layout_of g key.items) b) shelf pen.shelf)
+        (λ e. Ran S.moment S.images name.now (IsOpenBlock (layout_of g key.items) b) shelf e.1) }
+    ensures slots { IfErr result (λ e. (k : ℕ) (h : Held) → S.slots shelf k ≡ Some h → S.slots e.1 k ≡ Some h) }
+    ensures cause { MatchResult result (λ pen. S.faults shelf ≤ S.faults pen.shelf)
+        (λ e. HasCause (S.faults shelf) (S.faults e.1) (e.0 ≡ OpenFault.ShelfFault)) }
+    ensures honest { (picture : List ℕ) → ((c : List ℕ) → S.images shelf (S.moment shelf) name.now c → IsHonest (layout_of g key.items) picture c) →
+        MatchResult result (λ pen. Ran S.moment S.images name.now (IsHonest (layout_of g key.items) picture) shelf pen.shelf)
+        (λ e. Ran S.moment S.images name.now (IsHonest (layout_of g key.items) picture) shelf e.1) }
+    ensures own { ((c : List ℕ) → S.images shelf (S.moment shelf) name.now c → IsOwn (layout_of g key.items) c) →
+        MatchResult result (λ pen. Ran S.moment S.images name.now (IsOwn (layout_of g key.items)) shelf pen.shelf)
+        (λ e. Ran S.moment S.images name.now (IsOwn (layout_of g key.items)) shelf e.1) }
+{
+    begin(alloc, shelf, name, key, g, resume)
 }
