@@ -1,1 +1,11 @@
 pub mod Texts
+pub mod State
+pub mod Carried
+pub mod Begins
+pub mod Declares
+pub mod Words
+pub mod Tokens
+pub mod Values
+pub mod Settles
+pub mod Weights
+pub mod Parts

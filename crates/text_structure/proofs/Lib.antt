@@ -1,3 +1,4 @@
 mod Entries
 mod Vocabularies
 mod Nests
+pub mod OneEnd

@@ -3,6 +3,7 @@
 
 mod closer;
 mod ends;
+mod law;
 mod levels;
 mod mark;
 mod vocabulary;
@@ -10,6 +11,7 @@ mod words;
 mod written;
 
 pub use closer::{Closer, directive_at, is_block, is_word, sign_at};
+pub use law::one_end;
 pub use levels::{Misplaced, check_structure};
 pub use mark::{Directive, Known, Mark};
 pub use vocabulary::Words;

@@ -4,12 +4,13 @@ ghost use Rattle.text_structure.specs.Marks.{marking, marked, kind_marking, word
 ghost use Rattle.text_structure.specs.Texts.{Text, text, end_of, IsText};
 ghost use Rattle.text_structure.specs.Tables.{IsTable};
 ghost use Rattle.text_structure.specs.Levels.{structure};
+ghost use Rattle.text_structure.specs.Turns.{directive_at};
 ghost use Rattle.text_structure.specs.declared.levels.Misplaced.TheVariants.{NoMemory};
 
-use crate::closer::Closer;
+use crate::closer::{Closer, directive_at};
 use crate::ends::fill;
 use crate::levels::{Misplaced, check_structure};
-use crate::mark::Mark;
+use crate::mark::{Directive, Mark};
 use crate::vocabulary::Words;
 use crate::words::known_of;
 use scene_lexer::{Kind, Token};
@@ -141,13 +142,27 @@ impl Written {
         self.marks.as_slice()
     }
 
+    /// The directive whose `#` stands at a place.
+    pub fn directive(&self, at: usize) -> Option<Directive>
+        ensures value { result ≡ directive_at self.now.marks at }
+        ensures small { IsSome result → at < 2 ^ 24 }
+    {
+        if at < self.marks.len() {
+            directive_at(self.marks.as_slice(), at)
+        } else {
+            None
+        }
+    }
+
     /// Where a list that begins at a place ends: at its closer, or where the body ends in which it stands.
     #[inline(always)]
     pub fn end(&self, closer: Closer, at: usize) -> usize
-        requires { at < 2 ^ 60 }
         ensures value { result ≡ end_of self.now closer at }
         ensures small { result ≤ 2 ^ 32 }
     {
+        if at > self.marks.len() {
+            return self.marks.len();
+        }
         match self.ends.as_slice().get(at * 10 + closer.number()) {
             Some(end) => *end as usize,
             None => self.marks.len(),

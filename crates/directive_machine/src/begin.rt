@@ -1,0 +1,207 @@
+// What the token at a place begins.
+ghost use Rattle.std.specs.Prelude.{◌≡◌, ◌≢◌, ◌<◌, ◌≤◌, ◌^◌, Ok, Err, Some, IfOk, IfErr, OnOk, slice_get};
+ghost use Rattle.scope_tables.specs.Names.{found};
+ghost use Rattle.text_structure.specs.Turns.{directive_at};
+ghost use Rattle.directive_machine.specs.State.{stopped, begun};
+ghost use Rattle.directive_machine.specs.Tokens.{begun_default, begun_break, begun_word, begun_directive, begun_mark, begun_in};
+ghost use Rattle.directive_machine.specs.Carried.{state_of};
+ghost use Rattle.directive_machine.specs.declared.stop.Stop.TheVariants.{NoMemory};
+
+use crate::blocks::{begin_for, begin_if, begin_ifdef, begin_switch, begin_while};
+use crate::declares::{
+    begin_declare, begin_include, begin_macro, begin_message, begin_undef, begin_version,
+};
+use crate::machine::{Machine, wrong};
+use crate::part::{Action, Part};
+use crate::stop::Stop;
+use crate::words::{begin_defined, begin_name, hand_out};
+use std::alloc::Global;
+use text_structure::{Directive, Known, Mark, Written};
+
+/// A `#default` is handed out.
+fn begin_default(
+    alloc: Global,
+    source: &Written,
+    machine: &mut Machine,
+    part: &Part,
+    at: usize,
+) -> Result<Action, Stop>
+    requires place { at < 2 ^ 24 }
+    requires taken { machine.old.taken ≤ 16777216 }
+    ensures ok { IfOk result (λ action. begun_default source.now part.now at (state_of machine.old) ≡ Ok (begun action (state_of machine.new))) }
+    ensures fault { IfErr result (λ f. f ≢ NoMemory → begun_default source.now part.now at (state_of machine.old) ≡ Err (stopped f (state_of machine.new))) }
+    ensures more { OnOk result (machine.old.taken ≤ machine.new.taken) }
+    ensures within { OnOk result (machine.new.taken ≤ 16777216) }
+{
+    let _step = hand_out(alloc, source, machine, part, at)?;
+    machine.count(source, at + 1)?;
+    hand_out(alloc, source, machine, part, at + 1)
+}
+
+/// A `#break`.
+fn begin_break(source: &Written, machine: &mut Machine, at: usize) -> Result<Action, Stop>
+    requires place { at < 2 ^ 24 }
+    requires taken { machine.old.taken ≤ 16777216 }
+    ensures ok { IfOk result (λ action. begun_break source.now at (state_of machine.old) ≡ Ok (begun action (state_of machine.new))) }
+    ensures fault { IfErr result (λ f. begun_break source.now at (state_of machine.old) ≡ Err (stopped f (state_of machine.new))) }
+    ensures more { OnOk result (machine.old.taken ≤ machine.new.taken) }
+    ensures within { OnOk result (machine.new.taken ≤ 16777216) }
+{
+    machine.count(source, at + 1)?;
+    Ok(Action::Break)
+}
+
+/// A directive by its word.
+fn begin_word(
+    alloc: Global,
+    source: &Written,
+    machine: &mut Machine,
+    part: &Part,
+    directive: Directive,
+    at: usize,
+) -> Result<Action, Stop>
+    requires place { at < 2 ^ 24 }
+    requires taken { machine.old.taken ≤ 16777216 }
+    ensures ok { IfOk result (λ action. begun_word directive source.now part.now at (state_of machine.old) ≡ Ok (begun action (state_of machine.new))) }
+    ensures fault { IfErr result (λ f. f ≢ NoMemory → begun_word directive source.now part.now at (state_of machine.old) ≡ Err (stopped f (state_of machine.new))) }
+    ensures more { OnOk result (machine.old.taken ≤ machine.new.taken) }
+    ensures within { OnOk result (machine.new.taken ≤ 16777216) }
+{
+    match directive {
+        Directive::If => begin_if(source, machine, part, at),
+        Directive::Ifdef => begin_ifdef(source, machine, part, true, at),
+        Directive::Ifndef => begin_ifdef(source, machine, part, false, at),
+        Directive::While => begin_while(source, machine, part, at),
+        Directive::For => begin_for(source, machine, part, at),
+        Directive::Switch => begin_switch(source, machine, part, at),
+        Directive::Macro => begin_macro(source, machine, part, at),
+        Directive::Declare => begin_declare(alloc, source, machine, part, false, at),
+        Directive::Local => begin_declare(alloc, source, machine, part, true, at),
+        Directive::Undef => begin_undef(source, machine, part, at),
+        Directive::Include => begin_include(source, machine, part, at),
+        Directive::Error => begin_message(source, machine, part, true, at),
+        Directive::Message => begin_message(source, machine, part, false, at),
+        Directive::Version => begin_version(source, machine, part, at),
+        Directive::Default => begin_default(alloc, source, machine, part, at),
+        Directive::Break => begin_break(source, machine, at),
+        Directive::End => Err(wrong(3, source, at)),
+        Directive::Else => Err(wrong(3, source, at)),
+        Directive::Case => Err(wrong(3, source, at)),
+        Directive::Range => Err(wrong(3, source, at)),
+    }
+}
+
+fn begin_directive(
+    alloc: Global,
+    source: &Written,
+    machine: &mut Machine,
+    part: &Part,
+    directive: Option<Directive>,
+    at: usize,
+) -> Result<Action, Stop>
+    requires place { at < 2 ^ 24 }
+    requires taken { machine.old.taken ≤ 16777216 }
+    ensures ok { IfOk result (λ action. begun_directive directive source.now part.now at (state_of machine.old) ≡ Ok (begun action (state_of machine.new))) }
+    ensures fault { IfErr result (λ f. f ≢ NoMemory → begun_directive directive source.now part.now at (state_of machine.old) ≡ Err (stopped f (state_of machine.new))) }
+    ensures more { OnOk result (machine.old.taken ≤ machine.new.taken) }
+    ensures within { OnOk result (machine.new.taken ≤ 16777216) }
+{
+    match directive {
+        Some(directive) => begin_word(alloc, source, machine, part, directive, at),
+        None => Err(wrong(1, source, at)),
+    }
+}
+
+fn begin_sign(
+    alloc: Global,
+    source: &Written,
+    machine: &mut Machine,
+    part: &Part,
+    code: u8,
+    at: usize,
+) -> Result<Action, Stop>
+    requires place { at < 2 ^ 24 }
+    requires taken { machine.old.taken ≤ 16777216 }
+    ensures ok { IfOk result (λ action. begun_mark (Some (Mark.Sign code)) source.now part.now at (state_of machine.old) ≡ Ok (begun action (state_of machine.new))) }
+    ensures fault { IfErr result (λ f. f ≢ NoMemory → begun_mark (Some (Mark.Sign code)) source.now part.now at (state_of machine.old) ≡ Err (stopped f (state_of machine.new))) }
+    ensures more { OnOk result (machine.old.taken ≤ machine.new.taken) }
+    ensures within { OnOk result (machine.new.taken ≤ 16777216) }
+{
+    if code == b'#' {
+        let directive = source.directive(at);
+        begin_directive(alloc, source, machine, part, directive, at)
+    } else {
+        hand_out(alloc, source, machine, part, at)
+    }
+}
+
+fn begin_known(
+    alloc: Global,
+    source: &Written,
+    machine: &mut Machine,
+    part: &Part,
+    known: Known,
+    at: usize,
+) -> Result<Action, Stop>
+    requires place { at < 2 ^ 24 }
+    requires taken { machine.old.taken ≤ 16777216 }
+    ensures ok { IfOk result (λ action. begun_mark (Some (Mark.Known known)) source.now part.now at (state_of machine.old) ≡ Ok (begun action (state_of machine.new))) }
+    ensures fault { IfErr result (λ f. f ≢ NoMemory → begun_mark (Some (Mark.Known known)) source.now part.now at (state_of machine.old) ≡ Err (stopped f (state_of machine.new))) }
+    ensures more { OnOk result (machine.old.taken ≤ machine.new.taken) }
+    ensures within { OnOk result (machine.new.taken ≤ 16777216) }
+{
+    match known {
+        Known::Defined => begin_defined(alloc, source, machine, part, at),
+        Known::Directive(_) => hand_out(alloc, source, machine, part, at),
+        Known::Block => hand_out(alloc, source, machine, part, at),
+        Known::Colour => hand_out(alloc, source, machine, part, at),
+        Known::Other => hand_out(alloc, source, machine, part, at),
+    }
+}
+
+fn begin_mark(
+    alloc: Global,
+    source: &Written,
+    machine: &mut Machine,
+    part: &Part,
+    mark: Mark,
+    at: usize,
+) -> Result<Action, Stop>
+    requires place { at < 2 ^ 24 }
+    requires taken { machine.old.taken ≤ 16777216 }
+    ensures ok { IfOk result (λ action. begun_mark (Some mark) source.now part.now at (state_of machine.old) ≡ Ok (begun action (state_of machine.new))) }
+    ensures fault { IfErr result (λ f. f ≢ NoMemory → begun_mark (Some mark) source.now part.now at (state_of machine.old) ≡ Err (stopped f (state_of machine.new))) }
+    ensures more { OnOk result (machine.old.taken ≤ machine.new.taken) }
+    ensures within { OnOk result (machine.new.taken ≤ 16777216) }
+{
+    match mark {
+        Mark::Sign(code) => begin_sign(alloc, source, machine, part, code, at),
+        Mark::Name(name) => begin_name(alloc, source, machine, part, name, at),
+        Mark::Known(known) => begin_known(alloc, source, machine, part, known, at),
+        Mark::Number => hand_out(alloc, source, machine, part, at),
+        Mark::Text => hand_out(alloc, source, machine, part, at),
+    }
+}
+
+/// What the token at a place of a part begins. A place beyond the text is never asked for.
+pub fn begin(
+    alloc: Global,
+    source: &Written,
+    machine: &mut Machine,
+    part: &Part,
+    at: usize,
+) -> Result<Action, Stop>
+    ensures ok { IfOk result (λ action. begun_in source.now part.now at (state_of machine.old) ≡ Ok (begun action (state_of machine.new))) }
+    ensures fault { IfErr result (λ f. f ≢ NoMemory → begun_in source.now part.now at (state_of machine.old) ≡ Err (stopped f (state_of machine.new))) }
+    ensures more { OnOk result (machine.old.taken < machine.new.taken) }
+    ensures within { OnOk result (machine.new.taken ≤ 16777216) }
+{
+    match source.mark(at) {
+        Some(mark) => {
+            machine.count(source, at)?;
+            let action = begin_mark(alloc, source, machine, part, mark, at)?;
+            Ok(action)
+        }
+        None => Err(Stop::NoMemory),
+    }
+}
