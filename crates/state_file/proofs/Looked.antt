@@ -1,5 +1,5 @@
 -- What a file is after it was looked at.
-use Rattle.std.proofs.Common.{ℕ, ◌+◌, ◌≤◌, ◌≡◌, Bool, true, List, length, sym, ◌∙◌, subst, inl, inr, arith, slice_index}
+use Rattle.std.proofs.Common.{ℕ, ◌+◌, ◌<◌, ◌≤◌, ◌≡◌, Bool, true, List, length, refl, sym, ◌∙◌, subst, inl, inr, arith, slice_index}
 use Rattle.shelf.specs.Disk.{Images}
 use Rattle.shelf.specs.Moments.{Under}
 use Rattle.shelf.proofs.Steps as shelf_steps
@@ -109,5 +109,31 @@ made_own l ok before h c m = elim m [
         let long : length c ≡ length w.0 = w.2.long in
         let two : 2 ≤ length c = o.long in
         on_file l ok w.0 c w.2 o (h w.0 w.1 (record { long = omega arith; gate = w.2.gate }))
+  ]
+]
+
+-- what a run leaves now has what it promised at every moment
+pub ran_now : {S : Type 0} (moment : S → ℕ) (images : S → Images) (name : List ℕ) (P : List ℕ → Type 0) (old new : S)
+    → Ran moment images name P old new → (c : List ℕ) → images new (moment new) name c → P c
+ran_now {S} moment images name P old new r c i =
+    let here : moment new ≤ moment new = omega arith in
+    (r.moments.each (moment new) name c r.moments.later here i).own refl
+
+-- a block that is open in what was made was open before
+pub made_open : (l : Layout) → IsLaidOut l → (before : List ℕ → Type 0) (b : ℕ) → b < l.count → (c : List ℕ) → IsMade l before c
+    → IsOpenBlock l b c → (d : List ℕ) × before d × IsOpenBlock l b d
+made_open l ok before b hb c m o = elim m [
+  | inl i ↦ (c, i, o)
+  | inr n ↦ elim n [
+    | inl blank ↦ absurd (o.gate ((blank (open_file l ok b c o)).shut b hb))
+    | inr w ↦
+        let d : List ℕ = w.0 in
+        let og : OnlyGate d c = w.2 in
+        let fd : IsThisFrame l d = back_file l ok d c og o.file in
+        let all : length d ≡ l.all = fd.long in
+        let wide : 2 ≤ l.gates = ok.wide in
+        let g : l.gates + l.count ≤ l.all = ok.gates in
+        let gate : slice_index c (l.gates + b) ≡ slice_index d (l.gates + b) = og.rest (l.gates + b) (omega arith) (omega arith) in
+        (d, w.1, record { file = fd; gate = λ z. o.gate (gate ∙ z) })
   ]
 ]

@@ -85,3 +85,11 @@ through_refused l l' resume name name' holds holds' (OtherState place kept) e el
 )
 through_refused l l' resume name name' holds holds' ShelfFault e el tells same r = tt
 through_refused l l' resume name name' holds holds' NoMemory e el tells same r = tt
+
+pub through_made : (l l' : Layout) (half old : List ℕ → Type 0) → l' ≡ l → ((e : List ℕ) → half e → old e) → (d : List ℕ)
+    → IsMade l' half d → IsMade l old d
+through_made l l' half old el sub d m = made_of l half old sub d (subst (λ x. IsMade x half d) el m)
+
+pub err_of : {A E : Type 0} (r : Result A E) (P : A → Type 0) (Q Q' : E → Type 0) → ((e : E) → Q e → Q' e) → MatchResult r P Q → IfErr r Q'
+err_of (Ok a) P Q Q' g m = tt
+err_of (Err e) P Q Q' g m = g e m

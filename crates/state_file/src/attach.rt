@@ -55,6 +55,8 @@ pub(crate) fn attach<S: Shelf>(
         IsAcknowledged (layout frame.now) b (S.holds shelf.old (name_at (S.slots shelf.old slot)))
         (S.images shelf.old (S.moment shelf.old) (name_at (S.slots shelf.old slot))) →
         Ran S.moment S.images (name_at (S.slots shelf.old slot)) (IsOpenBlock (layout frame.now) b) shelf.old shelf.new }
+    ensures reads { (c : List ℕ) → S.holds shelf.new (name_at (S.slots shelf.old slot)) c →
+        IsMade (layout frame.now) (S.holds shelf.old (name_at (S.slots shelf.old slot))) c }
     ensures long { length image.new ≡ length image.old }
     ensures slots { SameSlots (S.slots shelf.old) (S.slots shelf.new) }
     ensures cause { HasCause (S.faults shelf.old) (S.faults shelf.new) (IsErr result) }

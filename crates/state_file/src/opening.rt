@@ -64,6 +64,11 @@ fn enter<S: Shelf>(
         MatchResult result
         (λ pen. Ran S.moment S.images (name_at (S.slots shelf slot)) (IsOpenBlock (layout frame) b) shelf pen.shelf)
         (λ e. Ran S.moment S.images (name_at (S.slots shelf slot)) (IsOpenBlock (layout frame) b) shelf e.1) }
+    ensures reads { MatchResult result
+        (λ pen. (c : List ℕ) → S.holds pen.shelf (name_at (S.slots shelf slot)) c →
+        IsMade (layout frame) (S.holds shelf (name_at (S.slots shelf slot))) c)
+        (λ e. (c : List ℕ) → S.holds e.1 (name_at (S.slots shelf slot)) c →
+        IsMade (layout frame) (S.holds shelf (name_at (S.slots shelf slot))) c) }
     ensures slots { MatchResult result (λ pen. SameSlots (S.slots shelf) (S.slots pen.shelf)) (λ e. SameSlots (S.slots shelf) (S.slots e.1)) }
     ensures cause { MatchResult result (λ pen. S.faults shelf ≤ S.faults pen.shelf)
         (λ e. HasCause (S.faults shelf) (S.faults e.1) (e.0 ≡ OpenFault.ShelfFault)) }
@@ -125,6 +130,9 @@ fn begin<S: Shelf>(
         MatchResult result
         (λ pen. Ran S.moment S.images name.now (IsOpenBlock (layout_of g key.items) b) shelf pen.shelf)
         (λ e. Ran S.moment S.images name.now (IsOpenBlock (layout_of g key.items) b) shelf e.1) }
+    ensures reads { MatchResult result
+        (λ pen. (c : List ℕ) → S.holds pen.shelf name.now c → IsMade (layout_of g key.items) (S.holds shelf name.now) c)
+        (λ e. (c : List ℕ) → S.holds e.1 name.now c → IsMade (layout_of g key.items) (S.holds shelf name.now) c) }
     ensures slots { IfErr result (λ e. (k : ℕ) (h : Held) → S.slots shelf k ≡ Some h → S.slots e.1 k ≡ Some h) }
     ensures cause { MatchResult result (λ pen. S.faults shelf ≤ S.faults pen.shelf)
         (λ e. HasCause (S.faults shelf) (S.faults e.1) (e.0 ≡ OpenFault.ShelfFault)) }
@@ -183,6 +191,9 @@ pub fn open<S: Shelf>(
     ensures slots { IfErr result (λ e. (k : ℕ) (h : Held) → S.slots shelf k ≡ Some h → S.slots e.1 k ≡ Some h) }
     ensures cause { MatchResult result (λ pen. S.faults shelf ≤ S.faults pen.shelf)
         (λ e. HasCause (S.faults shelf) (S.faults e.1) (e.0 ≡ OpenFault.ShelfFault)) }
+    ensures acknowledged { IfErr result (λ e. (b : ℕ) → b < (layout_of g key.items).count →
+        IsAcknowledged (layout_of g key.items) b (S.holds e.1 name.now) (S.images e.1 (S.moment e.1) name.now) →
+        (d : List ℕ) × S.holds shelf name.now d × IsOpenBlock (layout_of g key.items) b d) }
     ensures honest { (picture : List ℕ) → ((c : List ℕ) → S.images shelf (S.moment shelf) name.now c → IsHonest (layout_of g key.items) picture c) →
         MatchResult result (λ pen. Ran S.moment S.images name.now (IsHonest (layout_of g key.items) picture) shelf pen.shelf)
         (λ e. Ran S.moment S.images name.now (IsHonest (layout_of g key.items) picture) shelf e.1) }

@@ -3,7 +3,7 @@ use Rattle.shelf.specs.Disk.{name_at}
 use Rattle.state_file.specs.Frames.{layout}
 use Rattle.state_file.specs.Layout.{IsOpenBlock}
 use Rattle.state_file.specs.Opening.{IsMade}
-use Rattle.state_file.proofs.Looked.{ran_weaker, made_of, not_new, same_found}
+use Rattle.state_file.proofs.Looked.{ran_weaker, made_of, not_new, same_found, ran_now}
 use Rattle.state_file.proofs.Making.{ran_then}
 use Rattle.state_file.proofs.Shapes.{laid_out}
 use Rattle.state_file.proofs.attach.attach.Goals as goal
@@ -154,3 +154,47 @@ returns-in_ok-load-in-Same-clause-read g c = λ d h.
     let f = same_found (layout c.args.frame.now) c.args.resume w.0 c.in_ok-size.field-0 (c.in_ok-size.ensures.found w.0 w.1) c.in-Same.is in
     let e = c.in_ok-load-in-Same.ensures.value w.0 (subst (λ n. g.S.Shelf.holds c.look.new.shelf n w.0) (sym same) w.1) in
     (w.0, c.look.ensures.contents name w.0 w.1, (f.0, f.1, e))
+
+pub returns-in_err-size-clause-reads : goal.returns-in_err-size-clause-reads
+returns-in_err-size-clause-reads g c = λ d h. inl (c.look.ensures.contents (name_at (g.S.Shelf.slots c.args.shelf.now c.args.slot)) d h)
+
+pub returns-in-Other-clause-reads : goal.returns-in-Other-clause-reads
+returns-in-Other-clause-reads g c = λ d h. inl (c.look.ensures.contents (name_at (g.S.Shelf.slots c.args.shelf.now c.args.slot)) d h)
+
+pub returns-in_err-load-in-Same-clause-reads : goal.returns-in_err-load-in-Same-clause-reads
+returns-in_err-load-in-Same-clause-reads g c = λ d h.
+    let name = name_at (g.S.Shelf.slots c.args.shelf.now c.args.slot) in
+    inl (c.look.ensures.contents name d (c.load.ensures.contents name d h))
+
+pub returns-in_ok-load-in-Same-clause-reads : goal.returns-in_ok-load-in-Same-clause-reads
+returns-in_ok-load-in-Same-clause-reads g c = λ d h.
+    let name = name_at (g.S.Shelf.slots c.args.shelf.now c.args.slot) in
+    inl (c.look.ensures.contents name d (c.load.ensures.contents name d h))
+
+pub returns-in_err-make-in-New-clause-reads : goal.returns-in_err-make-in-New-clause-reads
+returns-in_err-make-in-New-clause-reads g c = λ d h.
+    let l = layout c.args.frame.now in
+    let name = name_at (g.S.Shelf.slots c.args.shelf.now c.args.slot) in
+    let name' = name_at (g.S.Shelf.slots c.look.new.shelf c.args.slot) in
+    let between = g.S.Shelf.images c.look.new.shelf (g.S.Shelf.moment c.look.new.shelf) name' in
+    let same = ap name_at (c.look.ensures.slots c.args.slot) in
+    let image = subst (λ n. g.S.Shelf.images c.make.new.shelf (g.S.Shelf.moment c.make.new.shelf) n d) (sym same)
+    (g.S.Shelf.reads_an_image c.make.new.shelf name d h) in
+    made_of l between (g.S.Shelf.holds c.args.shelf.now name)
+    (λ e i. c.look.ensures.contents name e (c.in_ok-size.ensures.synced e
+    (subst (λ n. g.S.Shelf.images c.look.new.shelf (g.S.Shelf.moment c.look.new.shelf) n e) same i))) d
+    (ran_now g.S.Shelf.moment g.S.Shelf.images name' (IsMade l between) c.look.new.shelf c.make.new.shelf c.make.ensures.ran d image)
+
+pub returns-in_ok-make-in-New-clause-reads : goal.returns-in_ok-make-in-New-clause-reads
+returns-in_ok-make-in-New-clause-reads g c = λ d h.
+    let l = layout c.args.frame.now in
+    let name = name_at (g.S.Shelf.slots c.args.shelf.now c.args.slot) in
+    let name' = name_at (g.S.Shelf.slots c.look.new.shelf c.args.slot) in
+    let between = g.S.Shelf.images c.look.new.shelf (g.S.Shelf.moment c.look.new.shelf) name' in
+    let same = ap name_at (c.look.ensures.slots c.args.slot) in
+    let image = subst (λ n. g.S.Shelf.images c.make.new.shelf (g.S.Shelf.moment c.make.new.shelf) n d) (sym same)
+    (g.S.Shelf.reads_an_image c.make.new.shelf name d h) in
+    made_of l between (g.S.Shelf.holds c.args.shelf.now name)
+    (λ e i. c.look.ensures.contents name e (c.in_ok-size.ensures.synced e
+    (subst (λ n. g.S.Shelf.images c.look.new.shelf (g.S.Shelf.moment c.look.new.shelf) n e) same i))) d
+    (ran_now g.S.Shelf.moment g.S.Shelf.images name' (IsMade l between) c.look.new.shelf c.make.new.shelf c.make.ensures.ran d image)
