@@ -69,7 +69,10 @@ impl<K, P: Ordered<K>> Pool<K, P> {
     /// Draws the next block. None exactly where the seat is through when the call ends.
     pub fn claim(&self, seat: &mut Seat<K, P>) -> Option<Permit>
         requires { IsSeated self.now seat.old }
-        ensures same { (seat.new.place.table_id ≡ seat.old.place.table_id) × (seat.new.place.me.1 ≡ seat.old.place.me.1) }
+        ensures seated { IsSeated self.now seat.new }
+        ensures idle { IsIdle self.now seat.old → IsIdle self.now seat.new }
+        ensures parts { parts_of seat.new ≡ parts_of seat.old }
+        ensures serving { IsServing self.now seat.old → IsServing self.now seat.new }
         ensures through { IfNone result ((view_of seat.new).through ≡ true) }
         ensures drew { IfSome result (λ permit. (number : ℕ) × IsPlace (terms_of self.now) permit.block number × ((view_of seat.new) ≡ drew (terms_of self.now) (view_of seat.old) number) × ((view_of seat.new).through ≡ false)) }
         ensures ended { IfNone result (((view_of seat.new) ≡ (view_of seat.old)) ⊎ ((number : ℕ) × ((view_of seat.old).through ≡ false) × ((view_of seat.new) ≡ drew (terms_of self.now) (view_of seat.old) number))) }
@@ -94,6 +97,7 @@ impl<K, P: Ordered<K>> Pool<K, P> {
         requires { IsIdle self.now seat.old }
         ensures missed { IfNone result (((view_of seat.new) ≡ missed (view_of seat.old)) × (parts_of seat.old ≢ (terms_of self.now).callers)) }
         ensures idle { IfNone result (IsIdle self.now seat.new) }
+        ensures parts { parts_of seat.new ≡ parts_of seat.old }
         ensures lent { IfSome result (λ pen. IsLent P.in_order P.knows P.is_tried P.was_block P.knew (terms_of self.now) (view_of seat.new) pen) }
         ensures serving { IfSome result (λ _. IsServing self.now seat.new) }
         ensures keeps { IfSome result (λ _. KeepsSeat (view_of seat.old) (view_of seat.new)) }

@@ -11,6 +11,8 @@ mod rule;
 mod seat;
 mod start;
 mod steps;
+#[cfg(test)]
+mod tests;
 mod tracer;
 mod view;
 
