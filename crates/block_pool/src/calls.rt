@@ -100,6 +100,7 @@ impl<K, P: Ordered<K>> Pool<K, P> {
         ensures parts { parts_of seat.new ≡ parts_of seat.old }
         ensures lent { IfSome result (λ pen. IsLent P.in_order P.knows P.is_tried P.was_block P.knew (terms_of self.now) (view_of seat.new) pen) }
         ensures serving { IfSome result (λ _. IsServing self.now seat.new) }
+        ensures kept { IfSome result (λ _. (k : ℕ) × ((view_of seat.new).kept ≡ Some k)) }
         ensures keeps { IfSome result (λ _. KeepsSeat (view_of seat.old) (view_of seat.new)) }
     {
         let shared = &self.table.shared;
