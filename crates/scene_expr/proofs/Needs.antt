@@ -1,5 +1,5 @@
 -- Where memory is needed: a text that is made, or six parts of a row.
-use Rattle.std.proofs.Common.{ℕ, zero, suc, ◌≡◌, ◌≤◌, ◌<◌, ◌+◌, ◌-◌, Bool, true, false, cond, ◌||◌, nat_eq, nat_le, List, [], ◌∷◌, length, drop, sym, ap, ◌∙◌, subst, refl, arith, Option, Some, None, Result, Ok}
+use Rattle.std.proofs.Common.{ℕ, zero, suc, ◌≡◌, ◌≤◌, ◌+◌, ◌-◌, Bool, true, false, cond, ◌||◌, nat_eq, nat_le, List, [], ◌∷◌, drop, sym, ap, ◌∙◌, subst, refl, arith, Option, Some, None, Ok}
 use Rattle.std.specs.Prelude.{count_by, if◌then◌else◌}
 use Rattle.std.specs.List.{list_any}
 use Rattle.std.proofs.lemmas.List.{drop-drop}
@@ -15,7 +15,6 @@ use Rattle.scene_expr.specs.Words.{word_of}
 use Rattle.scene_expr.specs.declared.heads.Head.{Head}
 use Rattle.scene_expr.specs.declared.heads.Opener.{Opener}
 use Rattle.scene_expr.specs.declared.operators.Prefix.{Prefix}
-use Rattle.scene_expr.specs.declared.value.ExprFault.{ExprFault}
 use Rattle.scene_expr.specs.declared.words.Arity.{Arity}
 use Rattle.scene_expr.specs.declared.words.Call.{Call}
 use Rattle.scene_expr.specs.declared.words.Word.{Word}

@@ -1,5 +1,5 @@
 -- What an expression takes memory for: a text that is made, and a row of more than five parts.
-use Rattle.std.specs.Prelude.{ℕ, Bool, true, false, ◌||◌, nat_eq, nat_le, List, Option, Some, None, count_by}
+use Rattle.std.specs.Prelude.{Bool, true, false, ◌||◌, nat_eq, nat_le, List, Option, Some, count_by}
 use Rattle.std.specs.List.{list_any}
 use Rattle.scene_lexer.specs.declared.sign.TheConstants.{COMMA}
 use Rattle.scene_lexer.specs.declared.token.Kind.{Kind}

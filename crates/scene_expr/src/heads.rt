@@ -146,6 +146,7 @@ fn word_head(word: Option<Word>) -> Head
 }
 
 /// What the factor begins with that stands here.
+#[inline(never)]
 pub fn head_at(tokens: &[Token], at: usize) -> Head
     ensures { result ≡ head_at tokens.now at }
 {

@@ -5,6 +5,7 @@ ghost use Rattle.scene_expr.specs.Grammar.{goes_on, made, marked, with_component
 ghost use Rattle.scene_expr.specs.Grammar.Inner.{Choice, Sum, Factor};
 ghost use Rattle.scene_expr.specs.Calls.{called, makes_text};
 ghost use Rattle.scene_expr.specs.Colours.{grouped};
+ghost use Rattle.scene_expr.specs.Constants.{constant};
 ghost use Rattle.scene_expr.specs.Heads.{component_at, head_at, place_at, text_at};
 ghost use Rattle.scene_expr.specs.Operators.{applied, chosen};
 ghost use Rattle.scene_expr.specs.Memory.{needs_memory};
@@ -24,7 +25,7 @@ use crate::heads::{
 use crate::operators::{Operator, applied, chosen, prefixed, tier_behind, tier_operator};
 use crate::texts::text;
 use crate::value::{ExprFault, Level, Settings, Trouble, Value};
-use crate::words::{Arity, Call};
+use crate::words::{Arity, Call, Constant};
 use scene_lexer::{Token, sign};
 use smallvec::SmallVec;
 use std::alloc::Global;
@@ -151,6 +152,15 @@ fn call_in(
     settle(tokens, called(alloc, call, arguments), at, value)
 }
 
+/// The value that a word stands for.
+#[inline(never)]
+fn constant_in(word: Constant, set: &Settings, value: &mut Value)
+    requires { AreWhole set.now }
+    ensures { value.new ≡ constant word set.now }
+{
+    *value = constant(word, set);
+}
+
 /// The text that stands here, as a value.
 #[inline(never)]
 fn literal(alloc: Global, tokens: &[Token], at: usize, value: &mut Value) -> Result<(), ExprFault>
@@ -217,6 +227,7 @@ fn dotted(tokens: &[Token], at: usize, value: &mut Value) -> Result<usize, ExprF
 
 /// A sign or a colour word, and the factor behind it.
 #[cycle(levels)]
+#[inline(never)]
 fn marked_at(
     alloc: Global,
     tokens: &[Token],
@@ -240,6 +251,7 @@ fn marked_at(
 
 /// An expression in brackets.
 #[cycle(levels)]
+#[inline(never)]
 fn bracketed(
     alloc: Global,
     tokens: &[Token],
@@ -260,7 +272,44 @@ fn bracketed(
     Ok(next)
 }
 
-/// The numbers between `<` and `>`.
+/// The numbers behind `<`, and the vector or colour that they make before `>`.
+#[cycle(levels)]
+#[inline(always)]
+fn numbers(
+    alloc: Global,
+    tokens: &[Token],
+    set: &Settings,
+    at: usize,
+    depths: usize,
+    values: &mut SmallVec<Value, 5>,
+    value: &mut Value,
+) -> Result<usize, ExprFault>
+    requires within { at < length tokens.now }
+    requires whole { AreWhole set.now }
+    requires empty { values.old.items ≡ [] }
+    requires room { 5 ≤ values.old.capacity }
+    ensures found { IfOk result (λ next. IsOpening tokens.now (inner tokens.now set.now (suc depths)) Opener.Angle at (Ok (read value.new next))) }
+    ensures fault { IfErr result (λ f. f ≢ NoMemory → IsOpening tokens.now (inner tokens.now set.now (suc depths)) Opener.Angle at (Err f)) }
+    ensures memory { IfErr result (λ f. f ≡ NoMemory → IsTrue (needs_memory (drop at tokens.now))) }
+    ensures within { IfOk result (λ next. (at ≤ next) × (next ≤ length tokens.now)) }
+{
+    let end = row(
+        alloc,
+        tokens,
+        set,
+        at + 1,
+        depths,
+        Level::Sum,
+        ANGLE,
+        values,
+        value,
+    )?;
+    let next = passed(sign::GREATER, tokens, end)?;
+    group_in(tokens, values.as_slice(), at, value)?;
+    Ok(next)
+}
+
+/// The numbers between `<` and `>`. What it holds is dropped at one place, which keeps its frame small.
 #[cycle(levels)]
 #[inline(never)]
 fn grouped_at(
@@ -279,22 +328,50 @@ fn grouped_at(
     ensures within { IfOk result (λ next. (at ≤ next) × (next ≤ length tokens.now)) }
 {
     let mut values = SmallVec::new(alloc);
+    numbers(alloc, tokens, set, at, depths, &mut values, value)
+}
+
+/// The arguments in the brackets behind a call, and what the call makes of them.
+#[cycle(levels)]
+#[inline(always)]
+fn arguments(
+    alloc: Global,
+    tokens: &[Token],
+    set: &Settings,
+    call: Call,
+    at: usize,
+    depths: usize,
+    values: &mut SmallVec<Value, 5>,
+    value: &mut Value,
+) -> Result<usize, ExprFault>
+    requires within { at < length tokens.now }
+    requires head { head_at tokens.now at ≡ Head.Opener (Opener.Call call) }
+    requires whole { AreWhole set.now }
+    requires empty { values.old.items ≡ [] }
+    requires room { 5 ≤ values.old.capacity }
+    ensures found { IfOk result (λ next. IsOpening tokens.now (inner tokens.now set.now (suc depths)) (Opener.Call call) at (Ok (read value.new next))) }
+    ensures fault { IfErr result (λ f. f ≢ NoMemory → IsOpening tokens.now (inner tokens.now set.now (suc depths)) (Opener.Call call) at (Err f)) }
+    ensures memory { IfErr result (λ f. f ≡ NoMemory → IsTrue (needs_memory (drop at tokens.now))) }
+    ensures within { IfOk result (λ next. (at ≤ next) × (next ≤ length tokens.now)) }
+{
+    let start = passed(sign::OPEN_BRACKET, tokens, at + 1)?;
     let end = row(
         alloc,
         tokens,
         set,
-        at + 1,
+        start,
         depths,
-        Level::Sum,
-        ANGLE,
-        &mut values,
+        Level::Choice,
+        call.arity(),
+        values,
+        value,
     )?;
-    let next = passed(sign::GREATER, tokens, end)?;
-    group_in(tokens, values.as_slice(), at, value)?;
+    let next = passed(sign::CLOSE_BRACKET, tokens, end)?;
+    call_in(alloc, tokens, call, values.as_slice(), at, value)?;
     Ok(next)
 }
 
-/// A call with its arguments.
+/// A call with its arguments. What it holds is dropped at one place, which keeps its frame small.
 #[cycle(levels)]
 #[inline(never)]
 fn called_at(
@@ -314,21 +391,8 @@ fn called_at(
     ensures memory { IfErr result (λ f. f ≡ NoMemory → IsTrue (needs_memory (drop at tokens.now))) }
     ensures within { IfOk result (λ next. (at ≤ next) × (next ≤ length tokens.now)) }
 {
-    let start = passed(sign::OPEN_BRACKET, tokens, at + 1)?;
     let mut values = SmallVec::new(alloc);
-    let end = row(
-        alloc,
-        tokens,
-        set,
-        start,
-        depths,
-        Level::Choice,
-        call.arity(),
-        &mut values,
-    )?;
-    let next = passed(sign::CLOSE_BRACKET, tokens, end)?;
-    call_in(alloc, tokens, call, values.as_slice(), at, value)?;
-    Ok(next)
+    arguments(alloc, tokens, set, call, at, depths, &mut values, value)
 }
 
 /// The numbers of a colour, each behind its word.
@@ -406,8 +470,10 @@ fn push(values: &mut SmallVec<Value, 5>, value: &mut Value) -> Result<(), ExprFa
     Ok(())
 }
 
-/// Parts divided by commas, behind a token that opened a depth: so many are left there.
+/// Parts divided by commas, behind a token that opened a depth: so many are left there. Each is read
+/// in the place of `value`.
 #[cycle(levels)]
+#[inline(always)]
 fn row(
     alloc: Global,
     tokens: &[Token],
@@ -417,6 +483,7 @@ fn row(
     level: Level,
     arity: Arity,
     values: &mut SmallVec<Value, 5>,
+    value: &mut Value,
 ) -> Result<usize, ExprFault>
     requires within { at ≤ length tokens.now }
     requires whole { AreWhole set.now }
@@ -429,9 +496,8 @@ fn row(
 {
     let mut next = at;
     'parts: loop {
-        let mut value = Value::default();
-        let end = part(alloc, tokens, set, next, depths, level, &mut value)?;
-        push(values, &mut value)?;
+        let end = part(alloc, tokens, set, next, depths, level, value)?;
+        push(values, value)?;
         let count = values.as_slice().len();
         if !goes_on(tokens, arity, count, end)? {
             return Ok(end);
@@ -469,7 +535,7 @@ fn bare(
             Ok(at + 1)
         }
         Head::Constant(word) => {
-            *value = constant(word, set);
+            constant_in(word, set, value);
             Ok(at + 1)
         }
         Head::Opener(opener) => {

@@ -1,13 +1,12 @@
 -- Each exit and each result of the levels is a case of its reading.
-use Rattle.std.proofs.Common.{◌≡◌, ◌<◌, ◌≤◌, ◌+◌, ◌-◌, [], length, drop, suc, nat_eq, true, false, Some, None, Ok, Err, refl, sym, ap, ◌∙◌, subst, arith, rules}
+use Rattle.std.proofs.Common.{◌≡◌, ◌<◌, ◌+◌, ◌-◌, [], length, drop, suc, nat_eq, true, false, Some, None, Ok, Err, refl, sym, ap, ◌∙◌, subst, arith, rules}
 use Rattle.std.proofs.lemmas.Result.{IfOk-weaker, IfErr-weaker}
 use Rattle.scene_expr.specs.Calls.{called}
 use Rattle.scene_expr.specs.Operators.{chosen}
 use Rattle.scene_expr.specs.Colours.{grouped, with_channel}
 use Rattle.scene_expr.specs.declared.heads.Head.{Head}
-use Rattle.scene_expr.specs.declared.heads.Opener.{Opener}
 use Rattle.scene_expr.specs.Then.{IsThen}
-use Rattle.scene_expr.specs.Grammar.{angle_arity, goes_on, inner, inner_of, made, marked, tier_operator, IsRow, IsChannels}
+use Rattle.scene_expr.specs.Grammar.{angle_arity, goes_on, inner, inner_of, made, tier_operator, IsRow, IsChannels}
 use Rattle.scene_expr.specs.Grammar.Inner.{Choice, Sum}
 use Rattle.scene_expr.specs.Heads.{sign_at, place_at, channel_at}
 use Rattle.scene_expr.specs.Steps.{read}
@@ -59,48 +58,48 @@ pub branched-returns-clause-found : goal.branched-returns-clause-found
 branched-returns-clause-found t c =
     IsThen.found _ _ (choice_inside c.args.tokens.now c.args.set.now c.args.depths _ _ c.in_ok-end.ensures.found) (IsThen.found _ _ c.in_ok-start.ensures.value (IsThen.found _ _ (choice_inside c.args.tokens.now c.args.set.now c.args.depths _ _ c.in_ok-next.ensures.found) (sym (c.in_ok-choose.ensures.ok c.in_ok-next.next) ∙ ap (λ condition. made (chosen condition c.choice.new.value c.choice-2.new.value) (place_at c.args.tokens.now c.args.at) c.in_ok-next.next) c.take-condition.ensures.value)))
 
-pub grouped_at-returns-in_err-end-clause-fault : goal.grouped_at-returns-in_err-end-clause-fault
-grouped_at-returns-in_err-end-clause-fault t c =
+pub numbers-returns-in_err-end-clause-fault : goal.numbers-returns-in_err-end-clause-fault
+numbers-returns-in_err-end-clause-fault t c =
     exit _ _ _ c.from_residual.ensures.1 (λ some. IsThen.fault _ (c.in_err-end.ensures.fault some))
 
-pub grouped_at-returns-in_err-next-clause-fault : goal.grouped_at-returns-in_err-next-clause-fault
-grouped_at-returns-in_err-next-clause-fault t c =
+pub numbers-returns-in_err-next-clause-fault : goal.numbers-returns-in_err-next-clause-fault
+numbers-returns-in_err-next-clause-fault t c =
     exit _ _ _ c.from_residual-in_err-next.ensures.1 (λ some. IsThen.found _ _ c.in_ok-end.ensures.found (IsThen.fault _ c.in_err-next.ensures.value))
 
-pub grouped_at-group_in-requires-clause-least : goal.grouped_at-group_in-requires-clause-least
-grouped_at-group_in-requires-clause-least t c =
+pub numbers-group_in-requires-clause-least : goal.numbers-group_in-requires-clause-least
+numbers-group_in-requires-clause-least t c =
     rw c.as_slice.ensures (row_least c.args.tokens.now ((inner c.args.tokens.now c.args.set.now (suc c.args.depths)) Sum) angle_arity [] (c.args.at + 1) _ _ c.in_ok-end.ensures.found refl)
 
-pub grouped_at-group_in-requires-clause-most : goal.grouped_at-group_in-requires-clause-most
-grouped_at-group_in-requires-clause-most t c =
+pub numbers-group_in-requires-clause-most : goal.numbers-group_in-requires-clause-most
+numbers-group_in-requires-clause-most t c =
     rw c.as_slice.ensures (row_most c.args.tokens.now ((inner c.args.tokens.now c.args.set.now (suc c.args.depths)) Sum) angle_arity 5 [] (c.args.at + 1) _ _ refl (omega arith) c.in_ok-end.ensures.found refl)
 
-pub grouped_at-returns-in_err-group_in-clause-fault : goal.grouped_at-returns-in_err-group_in-clause-fault
-grouped_at-returns-in_err-group_in-clause-fault t c =
+pub numbers-returns-in_err-group_in-clause-fault : goal.numbers-returns-in_err-group_in-clause-fault
+numbers-returns-in_err-group_in-clause-fault t c =
     exit _ _ _ c.from_residual-in_err-group_in.ensures.1 (λ some. IsThen.found _ _ c.in_ok-end.ensures.found (IsThen.found _ _ c.in_ok-next.ensures.value (sym (c.in_err-group_in.ensures.fault c.in_ok-next.next) ∙ ap (λ numbers. made (grouped numbers) (place_at c.args.tokens.now c.args.at) c.in_ok-next.next) c.as_slice.ensures)))
 
-pub grouped_at-returns-clause-found : goal.grouped_at-returns-clause-found
-grouped_at-returns-clause-found t c =
+pub numbers-returns-clause-found : goal.numbers-returns-clause-found
+numbers-returns-clause-found t c =
     IsThen.found _ _ c.in_ok-end.ensures.found (IsThen.found _ _ c.in_ok-next.ensures.value (sym (c.in_ok-group_in.ensures.ok c.in_ok-next.next) ∙ ap (λ numbers. made (grouped numbers) (place_at c.args.tokens.now c.args.at) c.in_ok-next.next) c.as_slice.ensures))
 
-pub called_at-returns-in_err-start-clause-fault : goal.called_at-returns-in_err-start-clause-fault
-called_at-returns-in_err-start-clause-fault t c =
+pub arguments-returns-in_err-start-clause-fault : goal.arguments-returns-in_err-start-clause-fault
+arguments-returns-in_err-start-clause-fault t c =
     exit _ _ _ c.from_residual.ensures.1 (λ some. IsThen.fault _ c.in_err-start.ensures.value)
 
-pub called_at-returns-in_err-end-clause-fault : goal.called_at-returns-in_err-end-clause-fault
-called_at-returns-in_err-end-clause-fault t c =
+pub arguments-returns-in_err-end-clause-fault : goal.arguments-returns-in_err-end-clause-fault
+arguments-returns-in_err-end-clause-fault t c =
     exit _ _ _ c.from_residual-in_err-end.ensures.1 (λ some. IsThen.found _ _ c.in_ok-start.ensures.value (IsThen.fault _ (subst (λ arity. IsRow c.args.tokens.now ((inner c.args.tokens.now c.args.set.now (suc c.args.depths)) Choice) arity [] c.in_ok-start.start (Err c.in_err-end.field-0.0)) c.arity.ensures (c.in_err-end.ensures.fault some))))
 
-pub called_at-returns-in_err-next-clause-fault : goal.called_at-returns-in_err-next-clause-fault
-called_at-returns-in_err-next-clause-fault t c =
+pub arguments-returns-in_err-next-clause-fault : goal.arguments-returns-in_err-next-clause-fault
+arguments-returns-in_err-next-clause-fault t c =
     exit _ _ _ c.from_residual-in_err-next.ensures.1 (λ some. IsThen.found _ _ c.in_ok-start.ensures.value (IsThen.found _ _ (subst (λ arity. IsRow c.args.tokens.now ((inner c.args.tokens.now c.args.set.now (suc c.args.depths)) Choice) arity [] c.in_ok-start.start (Ok (record { values = c.row.new.values.items; next = c.in_ok-end.end }))) c.arity.ensures c.in_ok-end.ensures.found) (IsThen.fault _ c.in_err-next.ensures.value)))
 
-pub called_at-returns-in_err-call_in-clause-fault : goal.called_at-returns-in_err-call_in-clause-fault
-called_at-returns-in_err-call_in-clause-fault t c =
+pub arguments-returns-in_err-call_in-clause-fault : goal.arguments-returns-in_err-call_in-clause-fault
+arguments-returns-in_err-call_in-clause-fault t c =
     exit _ _ _ c.from_residual-in_err-call_in.ensures.1 (λ some. IsThen.found _ _ c.in_ok-start.ensures.value (IsThen.found _ _ (subst (λ arity. IsRow c.args.tokens.now ((inner c.args.tokens.now c.args.set.now (suc c.args.depths)) Choice) arity [] c.in_ok-start.start (Ok (record { values = c.row.new.values.items; next = c.in_ok-end.end }))) c.arity.ensures c.in_ok-end.ensures.found) (IsThen.found _ _ c.in_ok-next.ensures.value (sym (c.in_err-call_in.ensures.fault some c.in_ok-next.next) ∙ ap (λ arguments. made (called c.args.call arguments) (place_at c.args.tokens.now c.args.at) c.in_ok-next.next) c.as_slice.ensures))))
 
-pub called_at-returns-clause-found : goal.called_at-returns-clause-found
-called_at-returns-clause-found t c =
+pub arguments-returns-clause-found : goal.arguments-returns-clause-found
+arguments-returns-clause-found t c =
     IsThen.found _ _ c.in_ok-start.ensures.value (IsThen.found _ _ (subst (λ arity. IsRow c.args.tokens.now ((inner c.args.tokens.now c.args.set.now (suc c.args.depths)) Choice) arity [] c.in_ok-start.start (Ok (record { values = c.row.new.values.items; next = c.in_ok-end.end }))) c.arity.ensures c.in_ok-end.ensures.found) (IsThen.found _ _ c.in_ok-next.ensures.value (sym (c.in_ok-call_in.ensures.ok c.in_ok-next.next) ∙ ap (λ arguments. made (called c.args.call arguments) (place_at c.args.tokens.now c.args.at) c.in_ok-next.next) c.as_slice.ensures)))
 
 pub channels-returns-in_err-end-clause-fault : goal.channels-returns-in_err-end-clause-fault
@@ -249,13 +248,6 @@ row-returns-then-not-branch-clause-found t c =
     let goes = counted c.args.arity (length c.as_slice-count.result.now) (length c.parts.values.items + 1) c.args.tokens.now c.in_ok-end.end (Ok false) same (subst (λ more. Ok more ≡ goes_on c.args.arity (length c.as_slice-count.result.now) c.args.tokens.now c.in_ok-end.end) ends c.in_ok-goes_on.ensures.value) in
     rw c.in_ok-push.ensures.ok (c.parts.invariant.0 _ (IsRow.last _ _ _ c.in_ok-end.ensures.found goes))
 
-pub row-parts-preserved-else-not-branch : goal.row-parts-preserved-else-not-branch
-row-parts-preserved-else-not-branch t c =
-    let more : c.in_ok-goes_on.field-0 ≡ true = grind arith in
-    let same : length c.as_slice-count.result.now ≡ length c.parts.values.items + 1 = ap length (c.as_slice-count.ensures ∙ c.in_ok-push.ensures.ok) ∙ longer c.parts.values.items c.part.new.value in
-    let goes = counted c.args.arity (length c.as_slice-count.result.now) (length c.parts.values.items + 1) c.args.tokens.now c.in_ok-end.end (Ok true) same (subst (λ more. Ok more ≡ goes_on c.args.arity (length c.as_slice-count.result.now) c.args.tokens.now c.in_ok-end.end) more c.in_ok-goes_on.ensures.value) in
-    ((λ r rest. c.parts.invariant.0 r (IsRow.further _ _ _ r c.in_ok-end.ensures.found goes (subst (λ values. IsRow c.args.tokens.now (inner c.args.tokens.now c.args.set.now (suc c.args.depths) (inner_of c.args.level)) c.args.arity values (c.in_ok-end.end + 1) r) c.in_ok-push.ensures.ok rest))), omega (arith, c.parts.invariant.1, c.in_ok-end.ensures.within.0), omega (arith, c.in_ok-goes_on.ensures.within more), rw (c.in_ok-push.ensures.ok, longer c.parts.values.items c.part.new.value) (omega (arith, c.parts.invariant.3, commas_later c.args.tokens.now c.parts.next c.in_ok-end.end c.in_ok-end.ensures.within.0, comma_here c.args.tokens.now c.in_ok-end.end (goes_comma c.args.arity (length c.parts.values.items + 1) c.args.tokens.now c.in_ok-end.end goes))), c.in_ok-push.ensures.room)
-
 pub row-parts-preserved : goal.row-parts-preserved
 row-parts-preserved t c =
     let more : c.in_ok-goes_on.field-0 ≡ true = grind arith in
@@ -295,32 +287,32 @@ pub branched-returns-in_err-choose-clause-memory : goal.branched-returns-in_err-
 branched-returns-in_err-choose-clause-memory t c =
     exit _ _ _ c.from_residual-in_err-choose.ensures.1 (λ want. absurd (c.in_err-choose.ensures.memory want))
 
-pub grouped_at-returns-in_err-end-clause-memory : goal.grouped_at-returns-in_err-end-clause-memory
-grouped_at-returns-in_err-end-clause-memory t c =
+pub numbers-returns-in_err-end-clause-memory : goal.numbers-returns-in_err-end-clause-memory
+numbers-returns-in_err-end-clause-memory t c =
     exit _ _ _ c.from_residual.ensures.1 (λ want. later c.args.tokens.now c.args.at (c.args.at + 1) (omega arith) (c.in_err-end.ensures.memory want))
 
-pub grouped_at-returns-in_err-next-clause-memory : goal.grouped_at-returns-in_err-next-clause-memory
-grouped_at-returns-in_err-next-clause-memory t c =
+pub numbers-returns-in_err-next-clause-memory : goal.numbers-returns-in_err-next-clause-memory
+numbers-returns-in_err-next-clause-memory t c =
     exit _ _ _ c.from_residual-in_err-next.ensures.1 (λ want. absurd (c.in_err-next.ensures.memory want))
 
-pub grouped_at-returns-in_err-group_in-clause-memory : goal.grouped_at-returns-in_err-group_in-clause-memory
-grouped_at-returns-in_err-group_in-clause-memory t c =
+pub numbers-returns-in_err-group_in-clause-memory : goal.numbers-returns-in_err-group_in-clause-memory
+numbers-returns-in_err-group_in-clause-memory t c =
     exit _ _ _ c.from_residual-in_err-group_in.ensures.1 (λ want. absurd (c.in_err-group_in.ensures.memory want))
 
-pub called_at-returns-in_err-start-clause-memory : goal.called_at-returns-in_err-start-clause-memory
-called_at-returns-in_err-start-clause-memory t c =
+pub arguments-returns-in_err-start-clause-memory : goal.arguments-returns-in_err-start-clause-memory
+arguments-returns-in_err-start-clause-memory t c =
     exit _ _ _ c.from_residual.ensures.1 (λ want. absurd (c.in_err-start.ensures.memory want))
 
-pub called_at-returns-in_err-end-clause-memory : goal.called_at-returns-in_err-end-clause-memory
-called_at-returns-in_err-end-clause-memory t c =
+pub arguments-returns-in_err-end-clause-memory : goal.arguments-returns-in_err-end-clause-memory
+arguments-returns-in_err-end-clause-memory t c =
     exit _ _ _ c.from_residual-in_err-end.ensures.1 (λ want. later c.args.tokens.now c.args.at c.in_ok-start.start (omega (arith, c.in_ok-start.ensures.behind)) (c.in_err-end.ensures.memory want))
 
-pub called_at-returns-in_err-next-clause-memory : goal.called_at-returns-in_err-next-clause-memory
-called_at-returns-in_err-next-clause-memory t c =
+pub arguments-returns-in_err-next-clause-memory : goal.arguments-returns-in_err-next-clause-memory
+arguments-returns-in_err-next-clause-memory t c =
     exit _ _ _ c.from_residual-in_err-next.ensures.1 (λ want. absurd (c.in_err-next.ensures.memory want))
 
-pub called_at-returns-in_err-call_in-clause-memory : goal.called_at-returns-in_err-call_in-clause-memory
-called_at-returns-in_err-call_in-clause-memory t c =
+pub arguments-returns-in_err-call_in-clause-memory : goal.arguments-returns-in_err-call_in-clause-memory
+arguments-returns-in_err-call_in-clause-memory t c =
     exit _ _ _ c.from_residual-in_err-call_in.ensures.1 (λ want. call_needs c.args.call c.args.tokens.now c.args.at c.requires.head (c.in_err-call_in.ensures.memory want))
 
 pub channels-returns-in_err-end-clause-memory : goal.channels-returns-in_err-end-clause-memory

@@ -36,17 +36,23 @@ decreases-marked_at l = l.depths * 16 + 13
 abbrev pub decreases-bracketed : goal.decreases-bracketed
 decreases-bracketed l = l.depths * 16 + 13
 
+abbrev pub decreases-numbers : goal.decreases-numbers
+decreases-numbers l = l.depths * 16 + 13
+
 abbrev pub decreases-grouped_at : goal.decreases-grouped_at
-decreases-grouped_at l = l.depths * 16 + 13
+decreases-grouped_at l = l.depths * 16 + 14
+
+abbrev pub decreases-arguments : goal.decreases-arguments
+decreases-arguments l = l.depths * 16 + 13
 
 abbrev pub decreases-called_at : goal.decreases-called_at
-decreases-called_at l = l.depths * 16 + 13
+decreases-called_at l = l.depths * 16 + 14
 
 abbrev pub decreases-channels : goal.decreases-channels
 decreases-channels l = l.depths * 16 + 13
 
 abbrev pub decreases-opened : goal.decreases-opened
-decreases-opened l = l.depths * 16 + 14
+decreases-opened l = l.depths * 16 + 15
 
 abbrev pub invariant-level-operators : goal.invariant-level-operators
 invariant-level-operators l =
