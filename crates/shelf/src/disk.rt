@@ -74,6 +74,7 @@ pub trait Shelf: Drop {
         ensures value { IfOk result (λ size. (c : List ℕ) →
             holds self.old (name_at (slots self.old slot)) c → size ≡ length c) }
         ensures contents { SameContents (holds self.old) (holds self.new) }
+        ensures stays { SameContents (holds self.new) (holds self.old) }
         ensures tells { Tells (holds self.old) (holds self.new) }
         ensures crash { SameContents (images self.old (moment self.old))
             (images self.new (moment self.new)) }
@@ -90,6 +91,7 @@ pub trait Shelf: Drop {
             holds self.old (name_at (slots self.old slot)) c →
             out.new ≡ bytes_from at (length out.old) c) }
         ensures contents { SameContents (holds self.old) (holds self.new) }
+        ensures stays { SameContents (holds self.new) (holds self.old) }
         ensures tells { Tells (holds self.old) (holds self.new) }
         ensures crash { SameContents (images self.old (moment self.old))
             (images self.new (moment self.new)) }

@@ -173,6 +173,7 @@ impl Shelf for MemShelf {
         ensures value { IfOk result (λ size. (c : List ℕ) →
             held_by self.old (name_at (slots_of self.old slot)) c → size ≡ length c) }
         ensures contents { SameContents (held_by self.old) (held_by self.new) }
+        ensures stays { SameContents (held_by self.new) (held_by self.old) }
         ensures tells { Tells (held_by self.old) (held_by self.new) }
         ensures crash { SameContents (images_of self.old (moment_of self.old))
             (images_of self.new (moment_of self.new)) }
@@ -197,6 +198,7 @@ impl Shelf for MemShelf {
             held_by self.old (name_at (slots_of self.old slot)) c →
             out.new ≡ bytes_from at (length out.old) c) }
         ensures contents { SameContents (held_by self.old) (held_by self.new) }
+        ensures stays { SameContents (held_by self.new) (held_by self.old) }
         ensures tells { Tells (held_by self.old) (held_by self.new) }
         ensures crash { SameContents (images_of self.old (moment_of self.old))
             (images_of self.new (moment_of self.new)) }

@@ -104,8 +104,8 @@ fn judge(front: &[u8], size: u64, frame: &Frame, fresh: &[u8], resume: bool) -> 
     compare(front, size, frame, fresh)
 }
 
-/// Reads the file's length and front, and makes sure that what it reads is what a crash leaves.
-/// `front` has room for all but gates and pixels.
+/// Syncs the file and then reads its length and its front, so that what is read is what a crash
+/// leaves. `front` has room for all but gates and pixels.
 pub(crate) fn look<S: Shelf>(
     shelf: &mut S,
     slot: u32,
@@ -132,9 +132,9 @@ pub(crate) fn look<S: Shelf>(
     ensures slots { SameSlots (S.slots shelf.old) (S.slots shelf.new) }
     ensures cause { HasCause (S.faults shelf.old) (S.faults shelf.new) (IsErr result) }
 {
-    let size = shelf.length(slot)?;
+    let size = synced_length(shelf, slot)?;
     let known = known_part(size, front.len());
-    read_synced(shelf, slot, &mut front[..known])?;
+    read_front(shelf, slot, &mut front[..known])?;
     Ok(judge(&front[..known], size, frame, fresh, resume))
 }
 
@@ -149,10 +149,31 @@ fn known_part(size: u64, most: usize) -> usize
     }
 }
 
-/// Reads the file's front and syncs it.
-fn read_synced<S: Shelf>(shelf: &mut S, slot: u32, out: &mut [u8]) -> Result<(), Failed>
+/// Syncs the file, and reads its length.
+fn synced_length<S: Shelf>(shelf: &mut S, slot: u32) -> Result<u64, Failed>
+    requires { IsSome (S.slots shelf.old slot) }
+    ensures value { IfOk result (λ size. (c : List ℕ) → S.holds shelf.new (name_at (S.slots shelf.old slot)) c → size ≡ length c) }
+    ensures synced { OnOk result (Within (S.holds shelf.new (name_at (S.slots shelf.old slot)))
+        (S.images shelf.new (S.moment shelf.new) (name_at (S.slots shelf.old slot)))) }
+    ensures contents { SameContents (S.holds shelf.old) (S.holds shelf.new) }
+    ensures tells { Tells (S.holds shelf.old) (S.holds shelf.new) }
+    ensures crash { SameContents (S.images shelf.old (S.moment shelf.old)) (S.images shelf.new (S.moment shelf.new)) }
+    ensures ran { Ran S.moment S.images (name_at (S.slots shelf.old slot))
+        (S.images shelf.old (S.moment shelf.old) (name_at (S.slots shelf.old slot))) shelf.old shelf.new }
+    ensures slots { SameSlots (S.slots shelf.old) (S.slots shelf.new) }
+    ensures cause { HasCause (S.faults shelf.old) (S.faults shelf.new) (IsErr result) }
+{
+    shelf.sync(slot)?;
+    let size = shelf.length(slot)?;
+    Ok(size)
+}
+
+/// Reads the front of a file that is synced.
+fn read_front<S: Shelf>(shelf: &mut S, slot: u32, out: &mut [u8]) -> Result<(), Failed>
     requires held { IsSome (S.slots shelf.old slot) }
     requires within { (c : List ℕ) → S.holds shelf.old (name_at (S.slots shelf.old slot)) c → length out.old ≤ length c }
+    requires synced { Within (S.holds shelf.old (name_at (S.slots shelf.old slot)))
+        (S.images shelf.old (S.moment shelf.old) (name_at (S.slots shelf.old slot))) }
     ensures value { OnOk result ((c : List ℕ) → S.holds shelf.new (name_at (S.slots shelf.old slot)) c →
         (k : ℕ) → k < length out.new → slice_index out.new k ≡ slice_index c k) }
     ensures synced { OnOk result (Within (S.holds shelf.new (name_at (S.slots shelf.old slot)))
@@ -166,6 +187,5 @@ fn read_synced<S: Shelf>(shelf: &mut S, slot: u32, out: &mut [u8]) -> Result<(),
     ensures cause { HasCause (S.faults shelf.old) (S.faults shelf.new) (IsErr result) }
 {
     shelf.read(slot, 0, out)?;
-    shelf.sync(slot)?;
     Ok(())
 }
