@@ -83,6 +83,7 @@ impl Written {
     pub fn new(alloc: Global, words: &mut Words, tokens: Vec<Token>) -> Result<Written, Misplaced>
         ensures text { IfOk result (λ written. (written.tokens ≡ tokens.items) × (marked tokens.items [] words.old ≡ record { marks = written.marks; words = words.new })) }
         ensures nests { IfOk result (λ written. structure written.marks ≡ Ok 0) }
+        ensures lists { IfOk result IsText }
         ensures fault { IfErr result (λ f. f ≢ NoMemory → structure (marked tokens.items [] words.old).marks ≡ Err f) }
     {
         if tokens.len() > MOST_TOKENS {
