@@ -7,7 +7,8 @@ use Rattle.directive_machine.specs.declared.part.Part.{Part}
 use Rattle.directive_machine.specs.declared.part.Then.{Then}
 use Rattle.directive_machine.specs.State.{Settled, Stopped}
 use Rattle.directive_machine.specs.Values.{Valued}
-use Rattle.directive_machine.specs.Settles.{made, made_argument}
+use Rattle.directive_machine.specs.Arguments.{made_argument}
+use Rattle.directive_machine.specs.Settles.{made}
 use Rattle.std.specs.Result.{IfErr, IsErrAnd}
 
 -- what holds of the fault holds at the exit of a `?`

@@ -1,3 +1,16 @@
 mod Commas
 mod Evaluates
 mod Exit
+mod Stacks
+mod Beginning
+mod Causes
+mod Including
+pub mod Laws
+pub mod MeaningLaws
+mod NameLaws
+pub mod SwitchLaws
+mod TakenIn
+mod OneText
+mod One
+mod OneScene
+mod Settled

@@ -7,7 +7,8 @@ use Rattle.directive_machine.specs.declared.part.Part.{Part}
 use Rattle.directive_machine.specs.declared.part.Then.{Then}
 use Rattle.directive_machine.specs.State.{State, Stopped, Settled}
 use Rattle.directive_machine.specs.Values.{Valued, IsEvaluated, IsValued, closed}
-use Rattle.directive_machine.specs.Settles.{made, settled_by, held_block, is_one_block}
+use Rattle.directive_machine.specs.Holds.{held_block, is_one_block}
+use Rattle.directive_machine.specs.Settles.{made, settled_by}
 
 -- a value, and what is made of it
 abbrev pub IsMade : Settings → Text → Option Text → Part → State → Result Settled Stopped → Type 0

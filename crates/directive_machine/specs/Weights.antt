@@ -2,7 +2,7 @@
 use Rattle.std.specs.Prelude.{ℕ, ◌+◌, ◌-◌, ◌*◌, ◌<◌, ◌≤◌, ◌-ℤ◌, ℤ, unsigned_abs, true, List, if◌then◌else◌}
 use Rattle.std.specs.List.{sum_by}
 use Rattle.std.specs.Prelude.{◌≡◌}
-use Rattle.directive_machine.specs.Settles.{goes_round}
+use Rattle.directive_machine.specs.Rounds.{goes_round}
 use Rattle.directive_machine.specs.declared.part.Part.{Part}
 use Rattle.directive_machine.specs.declared.part.Then.{Then}
 use Rattle.directive_machine.specs.declared.part.Next.{Next}

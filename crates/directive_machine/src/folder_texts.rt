@@ -1,5 +1,5 @@
 // The texts of the current folder. The methods call free functions over the fields.
-ghost use Rattle.std.specs.Prelude.{◌≡◌, None};
+ghost use Rattle.std.specs.Prelude.{◌≡◌, ◌+◌, ◌^◌, ℕ, List, Some, None, take, IfOk};
 
 use crate::texts::{ReadFail, Texts};
 use std::alloc::Global;
@@ -7,10 +7,7 @@ use std::fs::{self, Files};
 use std::io::{self, Read};
 
 /// The longest text that is looked at: one byte more than all texts of a frame may have.
-const LONGEST: usize = (1 << 24) + 1;
-
-/// How much is read at once.
-const PIECE: usize = 1 << 16;
+const LONGEST: u64 = (1 << 24) + 1;
 
 /// The files of the current folder as texts. It tells nothing of what they hold.
 #[derive(Drop)]
@@ -38,7 +35,7 @@ impl<R: Files + Drop> Texts for FolderTexts<R> {
             return Ok(None);
         };
         let read = match fs::open(&self.rt, path) {
-            Ok(mut file) => read_front(alloc, &mut file),
+            Ok(file) => read_front(alloc, file),
             Err(error) if error.kind() == io::ErrorKind::NotFound => return Ok(None),
             Err(_) => Err(ReadFail::Failed),
         };
@@ -53,24 +50,14 @@ impl<R: Files + Drop> Texts for FolderTexts<R> {
     }
 }
 
-/// Reads a file from its start: all of it, or the longest front that is looked at.
-fn read_front<F: Read>(alloc: Global, file: &mut F) -> Result<Vec<u8>, ReadFail> {
-    let Ok(mut piece) = vec![in alloc; 0u8; PIECE] else {
-        return Err(ReadFail::NoMemory);
-    };
+/// All that the file still holds, or the longest front of it that is looked at.
+fn read_front<F: Read + Drop>(alloc: Global, file: F) -> Result<Vec<u8>, ReadFail>
+    ensures { IfOk result (λ bytes. (left : List ℕ) → F.remaining file ≡ Some left → bytes.items ≡ take (2 ^ 24 + 1) left) }
+{
     let mut bytes = Vec::new(alloc);
-    for _ in 0..LONGEST {
-        let Ok(count) = file.read(&mut piece) else {
-            return Err(ReadFail::Failed);
-        };
-        let left = LONGEST.saturating_sub(bytes.len());
-        let taken = count.min(left).min(piece.len());
-        if taken == 0 {
-            break;
-        }
-        if bytes.extend_from_slice(&piece[..taken]).is_err() {
-            return Err(ReadFail::NoMemory);
-        }
+    match file.take(LONGEST).read_to_end(&mut bytes) {
+        Ok(_) => Ok(bytes),
+        Err(error) if error.kind() == io::ErrorKind::OutOfMemory => Err(ReadFail::NoMemory),
+        Err(_) => Err(ReadFail::Failed),
     }
-    Ok(bytes)
 }

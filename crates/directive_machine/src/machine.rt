@@ -3,7 +3,7 @@ ghost use Rattle.std.specs.Prelude.{◌≡◌, ◌≢◌, ◌<◌, ◌≤◌, �
 ghost use Rattle.directive_machine.specs.State.{counted, deeper, matched, passed, asked, asked_by, named, named_by, handed, is_aside, is_evaluated, stopped, restored};
 ghost use Rattle.scene_expr.specs.Heads.{place_at};
 ghost use Rattle.directive_machine.specs.Carried.{state_of};
-ghost use Rattle.directive_machine.specs.declared.stop.Stop.TheVariants.{NoMemory};
+ghost use Rattle.directive_machine.specs.declared.stop.Stop.TheVariants.{NoMemory, TextFault};
 
 use crate::part::{Part, Then};
 use crate::stop::Stop;
@@ -39,6 +39,23 @@ pub fn wrong(kind: u8, source: &Written, at: usize) -> Stop
     Stop::Directive {
         kind,
         place: place_at(source.tokens(), at),
+    }
+}
+
+/// A step that reads no text has no fault of the texts.
+pub fn of_step(stop: Stop) -> Stop
+    ensures same { result ≢ NoMemory → result ≡ stop }
+    ensures outside { result ≢ TextFault }
+{
+    match stop {
+        Stop::Lex(fault) => Stop::Lex(fault),
+        Stop::Expr(fault) => Stop::Expr(fault),
+        Stop::Directive { kind, place } => Stop::Directive { kind, place },
+        Stop::Absent { name, place } => Stop::Absent { name, place },
+        Stop::TextFault => Stop::NoMemory,
+        Stop::UserError { text, place } => Stop::UserError { text, place },
+        Stop::Limit { which, place } => Stop::Limit { which, place },
+        Stop::NoMemory => Stop::NoMemory,
     }
 }
 

@@ -3,17 +3,17 @@ ghost use Rattle.std.specs.Prelude.{true, false, ◌≡◌, ◌≢◌, ◌<◌, 
 ghost use Rattle.scene_expr.specs.Values.{AreWhole};
 ghost use Rattle.directive_machine.specs.State.{stopped, settled, restored};
 ghost use Rattle.directive_machine.specs.Values.{IsEvaluated, IsValued, closed, given};
-ghost use Rattle.directive_machine.specs.Settles.{made, is_plain, is_told, is_argument, settled_by, held_block, is_one_block, given_up, dropped};
+ghost use Rattle.directive_machine.specs.Holds.{held_block, is_one_block};
+ghost use Rattle.directive_machine.specs.Settles.{made, is_plain, is_told, is_argument, settled_by, given_up, dropped};
 ghost use Rattle.directive_machine.specs.Parts.{IsMade, IsSide, IsSideBy, IsExpression, IsTold};
 ghost use Rattle.directive_machine.specs.Weights.{is_light, is_done, keeps_measure, weight};
 ghost use Rattle.directive_machine.specs.Carried.{state_of};
 ghost use Rattle.directive_machine.specs.declared.stop.Stop.TheVariants.{NoMemory};
 
+use crate::arguments::{call_at_once, give, make_argument, refer};
+use crate::declared_blocks::{hold, make_block};
 use crate::machine::Machine;
-use crate::made::{
-    Valued, call_at_once, close, give, hold, make_argument, make_block, make_bound, make_plain,
-    refer, turn_again,
-};
+use crate::made::{Valued, close, make_bound, make_plain, turn_again};
 use crate::part::{Call, Next, Part, Then};
 use crate::settle::{fall, number, turn};
 use crate::stop::Stop;
