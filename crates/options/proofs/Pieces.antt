@@ -1,14 +1,13 @@
 -- The first piece of a line, and the first line of a text.
-use Rattle.std.proofs.Common.{◌≡◌, ℕ, suc, ◌+◌, ◌-◌, ◌<◌, ◌≤◌, Bool, true, false, not, cond, ◌||◌, ◌==◌, nat_lt, List, [], ◌∷◌, length, Option, Result, Ok, take, drop, filter, refl, sym, ap, ◌∙◌, subst, arith, take_all, length-take, inl, inr}
+use Rattle.std.proofs.Common.{◌≡◌, ℕ, suc, ◌+◌, ◌<◌, ◌≤◌, Bool, true, false, not, cond, ◌||◌, ◌==◌, nat_lt, List, [], ◌∷◌, length, Option, Ok, take, drop, filter, refl, sym, ap, ◌∙◌, subst, arith, take_all, length-take, inl, inr}
 use Rattle.std.proofs.lemmas.Bool.{cases_lt, cases_Bool}
 use Rattle.std.proofs.lemmas.List.{drop_all}
-use Rattle.std.specs.List.{slice_split, onto_first, position_or_len, before_first, after_first, list_all}
+use Rattle.std.specs.List.{slice_split, position_or_len, list_all}
 use Rattle.std.proofs.lemmas.List.Splits.{slice_split_first, length-slice_split}
 use Rattle.std.proofs.lemmas.Bool.Decides.{nat_tests}
 use Rattle.std.specs.Str.Lines.{lines, lines_of_parts, strip_carriage_return}
 use Rattle.options.specs.declared.fault.Where.{Where}
 use Rattle.options.specs.declared.fault.Where.TheVariants.{Line}
-use Rattle.options.specs.declared.fault.OptionFault.{OptionFault}
 use Rattle.options.specs.declared.draft.Draft.{Draft}
 use Rattle.options.specs.Outcomes.{◌>>=◌}
 use Rattle.options.specs.Ini.{is_blank, is_signed, is_fine, is_some_text, pieces, piece_read, pieces_read, bare, first_line, section_in, counts_behind, line_step, lines_read, is_named, has_section}

@@ -1,5 +1,6 @@
 -- What options set. (Reference manual, command-line options)
-use Rattle.std.specs.Prelude.{ℕ, ◌+◌, ◌≡◌, ◌≤◌, Bool, true, false, ◌==◌, nat_lt, if◌then◌else◌, List, [], ◌∷◌, ◌++◌, length, codes, ℤ, pos, unsigned_abs, Option, Some, None, Result, Ok, Err}
+use Rattle.std.specs.Prelude.{ℕ, ◌≡◌, ◌≤◌, Bool, true, false, nat_lt, if◌then◌else◌, List, [], ◌∷◌, ◌++◌, length, codes, ℤ, pos, ◌≤ℤ◌, unsigned_abs, Some, None, Result, Ok, Err}
+use Rattle.fix_math.specs.Numbers.{IsInRange}
 use Rattle.image_out.specs.declared.picture.Sort.TheVariants.{Ppm}
 use Rattle.options.specs.declared.fault.Where.{Where}
 use Rattle.options.specs.declared.fault.OptionFault.{OptionFault}
@@ -126,11 +127,16 @@ most_of Count.To = 999999
 most_of Count.Objects = 4096
 most_of Count.Depth = 9
 
--- a whole number is in its range, and a threshold is at most 3
+-- a threshold is from 0 to 3
+abbrev pub IsThreshold : ℤ → Type 0
+IsThreshold z = (pos 0 ≤ℤ z) × (unsigned_abs z ≤ 196608)
+
+-- a whole number, a threshold and a clock are in their ranges
 abbrev pub IsFitting : Setting → Type 0
 IsFitting (Setting.Count count n) = (1 ≤ n) × (n ≤ most_of count)
-IsFitting (Setting.Threshold z) = unsigned_abs z ≤ 196608
-IsFitting (Setting.Smooth z) = unsigned_abs z ≤ 196608
+IsFitting (Setting.Clock clock z) = IsInRange z
+IsFitting (Setting.Threshold z) = IsThreshold z
+IsFitting (Setting.Smooth z) = IsThreshold z
 IsFitting other = Unit {0}
 
 -- a setting in its range, or a refusal of the option's own
@@ -145,13 +151,21 @@ pub record IsSound (numbers : Numbers) : Type 0 where
   pub generate : numbers.generate ≤ 4096
   pub width : (1 ≤ numbers.width) × (numbers.width ≤ 8192)
   pub height : (1 ≤ numbers.height) × (numbers.height ≤ 8192)
-  pub threshold : unsigned_abs numbers.threshold ≤ 196608
+  pub threshold : IsThreshold numbers.threshold
   pub depth : (1 ≤ numbers.depth) × (numbers.depth ≤ 9)
   pub workers : (1 ≤ numbers.workers) × (numbers.workers ≤ 64)
   pub first : (1 ≤ numbers.first) × (numbers.first ≤ 999999)
   pub last : (1 ≤ numbers.last) × (numbers.last ≤ 999999)
+  pub single : numbers.animated ≡ false → (numbers.first ≡ 1) × (numbers.last ≡ 1)
+  pub clock : IsInRange numbers.clock
+  pub initial_clock : IsInRange numbers.initial_clock
+  pub final_clock : IsInRange numbers.final_clock
+
+pub record IsDraft (draft : Draft) : Type 0 where
+  pub numbers : IsSound draft.numbers
+  pub libraries : length draft.libraries ≤ 16
 
 -- an answer is what was meant, and in its ranges
 abbrev pub IsRead : Result Draft OptionFault → Result Draft OptionFault → Type 0
-IsRead meant (Ok draft) = (meant ≡ Ok draft) × IsSound draft.numbers
+IsRead meant (Ok draft) = (meant ≡ Ok draft) × IsDraft draft
 IsRead meant (Err fault) = Answers meant (Err fault)

@@ -1,6 +1,6 @@
 -- INI files. (Reference manual, INI files)
 use Rattle.std.specs.Prelude.{ℕ, ◌+◌, ◌-◌, Bool, true, false, not, ◌&&◌, ◌||◌, ◌==◌, nat_lt, nat_le, if◌then◌else◌, List, [], ◌∷◌, length, take, drop, reverse, filter, slice_index, Option, Some, None, Result, Ok, Err}
-use Rattle.std.specs.List.{list_any, list_all, slice_split, position_or_len, before_first}
+use Rattle.std.specs.List.{list_all, slice_split, position_or_len}
 use Rattle.std.specs.Str.{bytes_eq}
 use Rattle.std.specs.Str.Lines.{strip_carriage_return}
 use Rattle.options.specs.declared.fault.Where.{Where}

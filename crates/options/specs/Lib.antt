@@ -6,3 +6,6 @@ pub mod Readings
 pub mod Ini
 pub mod Names
 pub mod Plans
+pub mod Frames
+pub mod Keys
+pub mod Generated

@@ -1,7 +1,7 @@
 -- Answers that may fail.
 use Rattle.std.specs.Prelude.{◌≡◌, Result, Ok, Err}
 use Rattle.options.specs.declared.fault.OptionFault.{OptionFault}
-use Rattle.options.specs.declared.fault.OptionFault.TheVariants.{UnknownWord, BadNumber, Missing, Range, AbsentIni, BadLine, OutOfProfile, TextFault, NoMemory}
+use Rattle.options.specs.declared.fault.OptionFault.TheVariants.{TextFault, NoMemory}
 
 infixl 10 ◌>>=◌
 abbrev pub ◌>>=◌ : {A B E : Type 0} → Result A E → (A → Result B E) → Result B E

@@ -1,12 +1,12 @@
 -- The plan of the words, or the first refusal. (Reference manual, command-line options and INI files)
-use Rattle.std.specs.Prelude.{ℕ, ◌≡◌, ◌+◌, ◌-◌, ◌*◌, ◌^◌, ◌≤◌, ◌<◌, ◌⊎◌, Bool, true, false, not, ◌&&◌, ◌||◌, ◌==◌, nat_le, nat_lt, nat_eq, if◌then◌else◌, List, [], ◌∷◌, length, take, drop, codes, unsigned_abs, Option, Some, None, unwrap_or, Result, Ok, Err}
+use Rattle.std.specs.Prelude.{ℕ, ◌≡◌, ◌+◌, ◌-◌, ◌*◌, ◌≤◌, ◌<◌, Bool, true, false, not, ◌&&◌, ◌||◌, ◌==◌, nat_le, nat_lt, nat_eq, if◌then◌else◌, List, [], ◌∷◌, length, take, drop, codes, Option, Some, None, IfSome, unwrap_or, Result, Ok, Err}
 use Rattle.std.specs.List.{ends_with}
 use Rattle.std.specs.Str.Lines.{lines}
+use Rattle.fix_math.specs.Numbers.{IsInRange}
 use Rattle.image_out.specs.declared.picture.Sort.{Sort}
 use Rattle.image_out.specs.declared.picture.Sort.TheVariants.{Ppm, Targa, TargaRle}
 use Rattle.directive_machine.specs.declared.texts.Text.{Text}
 use Rattle.directive_machine.specs.Texts.{text_of}
-use Rattle.options.specs.declared.fault.Where.{Where}
 use Rattle.options.specs.declared.fault.Where.TheVariants.{Word, Line}
 use Rattle.options.specs.declared.fault.OptionFault.{OptionFault}
 use Rattle.options.specs.declared.fault.OptionFault.TheVariants.{UnknownWord, Missing, Range, AbsentIni, BadLine}
@@ -19,7 +19,7 @@ use Rattle.options.specs.declared.draft.Numbers.{Numbers}
 use Rattle.options.specs.declared.draft.Draft.{Draft}
 use Rattle.options.specs.Outcomes.{◌>>=◌}
 use Rattle.options.specs.Readings.{taken, switched}
-use Rattle.options.specs.Drafts.{first_draft}
+use Rattle.options.specs.Drafts.{first_draft, IsThreshold}
 use Rattle.options.specs.Ini.{enclosed, is_signed, has_section, lines_read}
 use Rattle.options.specs.Names.{front_length, image_name}
 
@@ -134,14 +134,25 @@ bits_fit Ppm bits = bits == 8 || bits == 16
 bits_fit Targa bits = bits == 8
 bits_fit TargaRle bits = bits == 8
 
+-- a threshold from 0 to 3, and from 1 to 9 sub-pixels a side
+abbrev pub IsAntialias : Antialias → Type 0
+IsAntialias antialias = IsThreshold antialias.threshold × (1 ≤ antialias.depth) × (antialias.depth ≤ 9)
+
 -- the ranges of a plan
 pub record IsPlan (plan : Plan) : Type 0 where
+  pub input : 1 ≤ length plan.input
   pub generate : plan.generate ≤ 4096
   pub width : (1 ≤ plan.width) × (plan.width ≤ 8192)
   pub height : (1 ≤ plan.height) × (plan.height ≤ 8192)
   pub pixels : plan.width * plan.height ≤ 16777216
   pub bits : bits_fit plan.sort plan.bits ≡ true
+  pub antialias : IfSome plan.antialias IsAntialias
   pub workers : (1 ≤ plan.workers) × (plan.workers ≤ 64)
+  pub libraries : length plan.libraries ≤ 16
+  pub clock : IsInRange plan.clock
+  pub initial_clock : IsInRange plan.initial_clock
+  pub final_clock : IsInRange plan.final_clock
+  pub single : plan.animated ≡ false → (plan.first ≡ 1) × (plan.last ≡ 1)
   pub first : 1 ≤ plan.first
   pub from : plan.first ≤ plan.from
   pub row : plan.from ≤ plan.to

@@ -1,5 +1,5 @@
 -- What the value of an option says. (Reference manual, command-line options and INI files)
-use Rattle.std.specs.Prelude.{ℕ, ◌≡◌, Bool, true, false, ◌&&◌, ◌==◌, nat_le, if◌then◌else◌, List, [], ◌∷◌, length, drop, ℤ, unsigned_abs, Option, Some, None, Result, Ok, Err}
+use Rattle.std.specs.Prelude.{ℕ, Bool, true, false, ◌&&◌, ◌==◌, nat_le, if◌then◌else◌, List, [], ◌∷◌, length, drop, ℤ, unsigned_abs, Option, Some, None, Result, Ok, Err}
 use Rattle.image_out.specs.declared.picture.Sort.TheVariants.{Ppm, Targa, TargaRle}
 use Rattle.scene_lexer.specs.Alone.{number_in}
 use Rattle.options.specs.declared.fault.Where.{Where}

@@ -1,6 +1,7 @@
 -- What the values of options mean. (Reference manual, command-line options and INI files)
-use Rattle.std.specs.Prelude.{ℕ, ◌+◌, ◌-◌, ◌*◌, Bool, true, false, not, ◌&&◌, ◌==◌, nat_le, if◌then◌else◌, List, [], ◌∷◌, length, fold, ℤ, neg_ℤ, Option, Some, None, option_map}
+use Rattle.std.specs.Prelude.{ℕ, ◌+◌, ◌-◌, ◌*◌, Bool, true, false, not, ◌&&◌, ◌==◌, nat_le, if◌then◌else◌, List, [], ◌∷◌, length, fold, ℤ, pos, neg_ℤ, ◌≤ℤ◌, Option, Some, None, option_map}
 use Rattle.std.specs.List.{list_all}
+use Rattle.fix_math.specs.Numbers.{IsInRange}
 use Rattle.scene_lexer.specs.Alone.{number_in}
 use Rattle.options.specs.declared.values.TheConstants.{TRUTHS}
 
@@ -25,6 +26,10 @@ is_whole s = not (length s == 0) && list_all (λ b. nat_le 48 b && nat_le b 57) 
 -- the number that digits stand for, however many
 abbrev pub whole_of : List ℕ → ℕ
 whole_of s = fold (λ n b. 10 * n + (b - 48)) 0 s
+
+-- the raw numbers that a number without a sign may have
+abbrev pub IsUnsigned : ℤ → Type 0
+IsUnsigned z = (pos 0 ≤ℤ z) × IsInRange z
 
 -- a signed number is a number behind a sign, or without one
 abbrev pub signed_in : List ℕ → Option ℤ

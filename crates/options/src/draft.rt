@@ -1,6 +1,6 @@
 // What the words read so far ask for.
 ghost use Rattle.std.specs.Prelude.{◌≡◌, ◌≤◌, IfOk};
-ghost use Rattle.options.specs.Drafts.{applied, counted, entered, count_named, names_set, clocked, flagged, facted, named, numbered, most_of, IsFitting, IsSound, IsRead};
+ghost use Rattle.options.specs.Drafts.{applied, counted, entered, count_named, names_set, clocked, flagged, facted, named, numbered, most_of, IsFitting, IsSound, IsDraft, IsRead};
 
 use crate::fault::{OptionFault, Where};
 use crate::plan::Libraries;
@@ -221,7 +221,7 @@ fn named(
     value: &[u8],
     draft: Draft,
 ) -> Result<Draft, OptionFault>
-    requires { IsSound draft.numbers }
+    requires { IsDraft draft }
     ensures { IsRead (named place name value.now draft) result }
 {
     let Draft {
@@ -269,7 +269,7 @@ fn count_named(
     count: Count,
     draft: Draft,
 ) -> Result<Draft, OptionFault>
-    requires { IsSound draft.numbers }
+    requires { IsDraft draft }
     ensures { IsRead (count_named place count draft) result }
 {
     match count {
@@ -293,7 +293,7 @@ fn names_set(
     value: &[u8],
     draft: Draft,
 ) -> Result<Draft, OptionFault>
-    requires { IsSound draft.numbers }
+    requires { IsDraft draft }
     ensures { IsRead (names_set place setting.now value.now draft) result }
 {
     match setting {
@@ -316,7 +316,7 @@ pub fn apply(
     draft: Draft,
 ) -> Result<Draft, OptionFault>
     requires fits { IsFitting setting }
-    requires sound { IsSound draft.numbers }
+    requires sound { IsDraft draft }
     ensures { IsRead (applied place setting value.now draft) result }
 {
     match names_set(alloc, place, &setting, value, draft) {

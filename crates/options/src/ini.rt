@@ -4,7 +4,7 @@ ghost use Rattle.std.specs.List.{list_all, position_or_len};
 ghost use Rattle.std.specs.Option.{option_copied};
 ghost use Rattle.std.specs.Str.{bytes_eq};
 ghost use Rattle.std.specs.Str.Lines.{lines, strip_carriage_return};
-ghost use Rattle.options.specs.Drafts.{IsRead, IsSound};
+ghost use Rattle.options.specs.Drafts.{IsRead, IsDraft};
 ghost use Rattle.options.specs.Ini.{is_blank, trim_start, trim_end, trimmed, bare, enclosed, unquoted, is_signed, is_fine, pieces, piece_read, pieces_read, named_read, pair_read, line_read, first_line, counts_in, counts_behind, line_step, lines_read, is_named, has_section};
 
 use crate::draft::Draft;
@@ -159,7 +159,7 @@ fn are_signed(line: &[u8]) -> bool
 
 /// Reads a switch of a line.
 fn read_piece(alloc: Global, place: Where, piece: &[u8], draft: Draft) -> Result<Draft, OptionFault>
-    requires { IsSound draft.numbers }
+    requires { IsDraft draft }
     ensures { IsRead (piece_read place piece.now draft) result }
 {
     match piece {
@@ -170,7 +170,7 @@ fn read_piece(alloc: Global, place: Where, piece: &[u8], draft: Draft) -> Result
 
 /// Reads the switches of a line, one after another.
 fn read_pieces(alloc: Global, place: Where, line: &[u8], draft: Draft) -> Result<Draft, OptionFault>
-    requires { IsSound draft.numbers }
+    requires { IsDraft draft }
     ensures { IsRead (pieces_read place (pieces line.now) draft) result }
 {
     let mut draft = draft;
@@ -194,7 +194,7 @@ fn read_name(
     value: &[u8],
     draft: Draft,
 ) -> Result<Draft, OptionFault>
-    requires { IsSound draft.numbers }
+    requires { IsDraft draft }
     ensures { IsRead (named_read place name.now value.now draft) result }
 {
     match name_of(name) {
@@ -205,7 +205,7 @@ fn read_name(
 
 /// Reads a name and its value.
 fn read_pair(alloc: Global, place: Where, line: &[u8], draft: Draft) -> Result<Draft, OptionFault>
-    requires { IsSound draft.numbers }
+    requires { IsDraft draft }
     ensures { IsRead (pair_read place line.now draft) result }
 {
     let at = length_before(b'=', line);
@@ -224,7 +224,7 @@ fn read_pair(alloc: Global, place: Where, line: &[u8], draft: Draft) -> Result<D
 
 /// Reads a line that doesn't name a section.
 fn read_line(alloc: Global, place: Where, line: &[u8], draft: Draft) -> Result<Draft, OptionFault>
-    requires { IsSound draft.numbers }
+    requires { IsDraft draft }
     ensures { IsRead (line_read place line.now draft) result }
 {
     if line.is_empty() {
@@ -298,7 +298,7 @@ fn read_step(
     line: &[u8],
     draft: Draft,
 ) -> Result<Draft, OptionFault>
-    requires { IsSound draft.numbers }
+    requires { IsDraft draft }
     ensures { IsRead (line_step place counts (option_copied section.entry) line.now draft) result }
 {
     match section {
@@ -346,7 +346,7 @@ pub fn read_lines(
     draft: Draft,
 ) -> Result<Draft, OptionFault>
     requires short { length text.now ≤ 16777216 }
-    requires sound { IsSound draft.numbers }
+    requires sound { IsDraft draft }
     ensures { IsRead (lines_read (option_copied chosen.entry) 1 true (lines text.now) draft) result }
 {
     let mut draft = draft;

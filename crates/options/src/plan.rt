@@ -1,5 +1,5 @@
 // What the options of a run ask for.
-ghost use Rattle.std.specs.Prelude.{◌≡◌, ◌++◌, [], ◌∷◌, length, OnOk};
+ghost use Rattle.std.specs.Prelude.{◌≡◌, ◌++◌, [], ◌∷◌, length, OnOk, OnErr};
 
 use fix_math::{Fix, Str};
 use image_out::Sort;
@@ -40,9 +40,10 @@ impl Libraries {
         }
     }
 
-    /// A further path behind the others.
+    /// A further path behind the others. Where there is no memory for it, nothing changes.
     pub fn push(&mut self, path: Str) -> Result<(), AllocError>
-        ensures { OnOk result (self.new ≡ self.old ++ path ∷ []) }
+        ensures added { OnOk result (self.new ≡ self.old ++ path ∷ []) }
+        ensures refused { OnErr result (self.new ≡ self.old) }
     {
         self.paths.push(path)?;
         Ok(())

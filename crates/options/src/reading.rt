@@ -1,15 +1,16 @@
 // What the value of an option says. (Reference manual, command-line options and INI files)
-ghost use Rattle.std.specs.Prelude.{◌≡◌, ◌≤◌, length, unsigned_abs, nat_le, drop};
-ghost use Rattle.options.specs.Drafts.{most_of, IsFit, IsRead, IsSound};
+ghost use Rattle.std.specs.Prelude.{◌≡◌, ◌≤◌, length, unsigned_abs, nat_le, drop, IfSome};
+ghost use Rattle.fix_math.specs.Numbers.{IsInRange};
+ghost use Rattle.options.specs.Values.{IsUnsigned};
+ghost use Rattle.options.specs.Drafts.{most_of, IsFit, IsRead, IsDraft};
 ghost use Rattle.options.specs.Readings.{whole_in, clock_in, threshold_in, smooth_in, truth_in_place, digit_in, letter_in, depth_in, on_in, alone_in, name_in_place, setting_of, taken, switched};
 
 use crate::draft::{Draft, Setting, apply};
 use crate::fault::{OptionFault, Where};
 use crate::table::{Bits, Clock, Count, Fact, Flag, Name, Reading, switch_of};
-use crate::values::{capped_whole, is_whole, signed, truth};
+use crate::values::{capped_whole, is_whole, signed, truth, unsigned};
 use fix_math::Fix;
 use image_out::Sort;
-use scene_lexer::number_value;
 use std::alloc::Global;
 
 /// The greatest threshold of supersampling.
@@ -48,6 +49,7 @@ fn whole(place: Where, count: Count, value: &[u8]) -> Result<Setting, OptionFaul
 }
 
 fn clock(place: Where, clock: Clock, value: Option<Fix>) -> Result<Setting, OptionFault>
+    requires { IfSome value IsInRange }
     ensures value { result ≡ clock_in place clock value }
     ensures fits { IsFit result }
 {
@@ -65,6 +67,7 @@ fn is_threshold(value: Fix) -> bool
 }
 
 fn threshold(place: Where, value: Option<Fix>) -> Result<Setting, OptionFault>
+    requires { IfSome value IsUnsigned }
     ensures value { result ≡ threshold_in place value }
     ensures fits { IsFit result }
 {
@@ -81,6 +84,7 @@ fn threshold(place: Where, value: Option<Fix>) -> Result<Setting, OptionFault>
 }
 
 fn smooth(place: Where, value: Option<Fix>) -> Result<Setting, OptionFault>
+    requires { IfSome value IsUnsigned }
     ensures value { result ≡ smooth_in place value }
     ensures fits { IsFit result }
 {
@@ -210,12 +214,12 @@ fn setting(place: Where, reading: Reading, value: &[u8]) -> Result<Setting, Opti
         Reading::Name(kind) => name(place, kind, value),
         Reading::Count(count) => whole(place, count, value),
         Reading::Clock(kind) => clock(place, kind, signed(value)),
-        Reading::Threshold => threshold(place, number_value(value)),
+        Reading::Threshold => threshold(place, unsigned(value)),
         Reading::Smooth => {
             if value.is_empty() {
                 Ok(Setting::Fact(Fact::Flag(Flag::Antialias, true)))
             } else {
-                smooth(place, number_value(value))
+                smooth(place, unsigned(value))
             }
         }
         Reading::Truth(flag) => truth_value(place, flag, truth(value)),
@@ -237,7 +241,7 @@ pub fn take(
     value: &[u8],
     draft: Draft,
 ) -> Result<Draft, OptionFault>
-    requires { IsSound draft.numbers }
+    requires { IsDraft draft }
     ensures { IsRead (taken place reading value.now draft) result }
 {
     match setting(place, reading, value) {
@@ -265,7 +269,7 @@ pub fn switch(
     letters: &[u8],
     draft: Draft,
 ) -> Result<Draft, OptionFault>
-    requires { IsSound draft.numbers }
+    requires { IsDraft draft }
     ensures { IsRead (switched place is_minus letters.now draft) result }
 {
     match switch_of(is_minus, letters) {

@@ -1,7 +1,9 @@
 // What the values of options mean.
-ghost use Rattle.std.specs.Prelude.{◌≡◌, ◌&&◌, nat_le, min, length, true};
+ghost use Rattle.std.specs.Prelude.{◌≡◌, ◌&&◌, nat_le, min, length, true, IfSome};
 ghost use Rattle.std.specs.List.{list_all};
-ghost use Rattle.options.specs.Values.{lower, begins, is_spelled, is_whole, whole_of, signed_in, truth_in, truth_of};
+ghost use Rattle.fix_math.specs.Numbers.{IsInRange};
+ghost use Rattle.scene_lexer.specs.Alone.{number_in};
+ghost use Rattle.options.specs.Values.{lower, begins, is_spelled, is_whole, whole_of, signed_in, IsUnsigned, truth_in, truth_of};
 
 use fix_math::Fix;
 use scene_lexer::number_value;
@@ -72,17 +74,28 @@ pub fn capped_whole(digits: &[u8]) -> u32
     number
 }
 
+/// A number without a sign.
+#[tactic(auto, using(crate::proofs::NumberRange::number_range))]
+pub fn unsigned(value: &[u8]) -> Option<Fix>
+    ensures value { result ≡ number_in value.now }
+    ensures range { IfSome result IsUnsigned }
+{
+    number_value(value)
+}
+
 /// A number with a sign or none.
+#[tactic(auto, using(crate::proofs::NumberRange::ranged, crate::proofs::NumberRange::negated))]
 pub fn signed(value: &[u8]) -> Option<Fix>
-    ensures { result ≡ signed_in value.now }
+    ensures value { result ≡ signed_in value.now }
+    ensures range { IfSome result IsInRange }
 {
     match value {
-        [b'+', number @ ..] => number_value(number),
-        [b'-', number @ ..] => match number_value(number) {
+        [b'+', number @ ..] => unsigned(number),
+        [b'-', number @ ..] => match unsigned(number) {
             Some(Fix(raw)) => Some(Fix(-raw)),
             None => None,
         },
-        _ => number_value(value),
+        _ => unsigned(value),
     }
 }
 

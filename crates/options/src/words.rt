@@ -4,9 +4,9 @@ ghost use Rattle.std.specs.Option.{option_copied};
 ghost use Rattle.std.specs.Str.Lines.{lines};
 ghost use Rattle.shelf.specs.Causes.{HasCause};
 ghost use Rattle.directive_machine.specs.declared.texts.Text.{Text};
-ghost use Rattle.options.specs.Drafts.{IsSound, IsRead, first_draft};
+ghost use Rattle.options.specs.Drafts.{IsSound, IsDraft, IsRead, first_draft};
 ghost use Rattle.options.specs.Outcomes.{Answers, Reads};
-ghost use Rattle.options.specs.Plans.{ini_length, lacks, text_read, plain_read, word_read, words_read, from_of, to_of, is_in_range, bits_of, antialias_of, completed, plan_of, IsPlan};
+ghost use Rattle.options.specs.Plans.{ini_length, lacks, text_read, plain_read, word_read, words_read, from_of, to_of, is_in_range, bits_of, antialias_of, plan_by, completed, plan_of, IsPlan};
 
 use crate::draft::{Draft, Numbers};
 use crate::fault::{OptionFault, Where};
@@ -18,7 +18,7 @@ use crate::table::{Bits, Name, Reading};
 use directive_machine::{ReadFail, Texts};
 use fix_math::{Fix, Str};
 use image_out::Sort;
-use std::alloc::Global;
+use std::alloc::{AllocError, Global};
 
 /// The greatest number of words.
 const MOST_WORDS: usize = 65_536;
@@ -69,7 +69,7 @@ fn read_text(
     text: &[u8],
     draft: Draft,
 ) -> Result<Draft, OptionFault>
-    requires { IsSound draft.numbers }
+    requires { IsDraft draft }
     ensures { IsRead (text_read number (option_copied chosen.entry) draft (Some text.now)) result }
 {
     if text.len() > MOST_TEXT {
@@ -83,7 +83,7 @@ fn read_text(
 
 /// Reads a word that names no INI file.
 fn read_plain(alloc: Global, number: u32, word: &[u8], draft: Draft) -> Result<Draft, OptionFault>
-    requires { IsSound draft.numbers }
+    requires { IsDraft draft }
     ensures { IsRead (plain_read number word.now draft) result }
 {
     let [first, letters @ ..] = word else {
@@ -112,9 +112,9 @@ fn read_word<T: Texts>(
     texts: &mut T,
     draft: Draft,
 ) -> Result<Draft, OptionFault>
-    requires { IsSound draft.numbers }
+    requires { IsDraft draft }
     ensures read { (h : List Text) → T.held texts.old ≡ Some h → Reads (word_read h number word.now draft) result }
-    ensures sound { IfOk result (λ next. IsSound next.numbers) }
+    ensures sound { IfOk result (λ next. IsDraft next) }
     ensures cause { HasCause (T.faults texts.old) (T.faults texts.new) (IsErrOf result OptionFault.TextFault) }
     ensures held { T.held texts.new ≡ T.held texts.old }
 {
@@ -144,7 +144,7 @@ fn read_words<T: Texts>(
     requires { length words.now ≤ 65536 }
     ensures read { (h : List Text) → T.held texts.old ≡ Some h
         → Reads (words_read h 1 (map string_bytes words.now) first_draft) result }
-    ensures sound { IfOk result (λ draft. IsSound draft.numbers) }
+    ensures sound { IfOk result (λ draft. IsDraft draft) }
     ensures cause { HasCause (T.faults texts.old) (T.faults texts.new) (IsErrOf result OptionFault.TextFault) }
     ensures held { T.held texts.new ≡ T.held texts.old }
 {
@@ -163,7 +163,7 @@ fn read_words<T: Texts>(
 /// Before any word is read.
 fn first_draft(alloc: Global) -> Draft
     ensures value { result ≡ first_draft }
-    ensures sound { IsSound result.numbers }
+    ensures sound { IsDraft result }
 {
     let numbers = Numbers {
         generate: 0,
@@ -253,26 +253,16 @@ fn antialias_of(numbers: &Numbers) -> Option<Antialias>
     }
 }
 
-/// What is left to see once all words are read.
-fn complete(alloc: Global, draft: Draft) -> Result<Plan, OptionFault>
-    requires { IsSound draft.numbers }
-    ensures value { Answers (completed draft) result }
-    ensures range { IfOk result (λ plan. IsPlan plan) }
+/// The plan that the words ask for.
+fn planned(alloc: Global, draft: Draft) -> Result<Plan, AllocError>
+    ensures { IfOk result (λ plan. plan ≡ plan_by draft) }
 {
-    if draft.input.bytes().is_empty() {
-        return Err(OptionFault::Missing(Where::Word(0)));
-    }
-    if !is_in_range(&draft.numbers) {
-        return Err(OptionFault::Range(Where::Word(0)));
-    }
-    let Ok(output) = image_name(
+    let output = image_name(
         alloc,
         draft.numbers.sort,
         draft.input.bytes(),
         draft.output.bytes(),
-    ) else {
-        return Err(OptionFault::NoMemory);
-    };
+    )?;
     let from = from_of(&draft.numbers);
     let to = to_of(&draft.numbers);
     let antialias = antialias_of(&draft.numbers);
@@ -305,6 +295,24 @@ fn complete(alloc: Global, draft: Draft) -> Result<Plan, OptionFault>
         from,
         to,
     })
+}
+
+/// What is left to see once all words are read.
+fn complete(alloc: Global, draft: Draft) -> Result<Plan, OptionFault>
+    requires { IsDraft draft }
+    ensures value { Answers (completed draft) result }
+    ensures range { IfOk result (λ plan. IsPlan plan) }
+{
+    if draft.input.bytes().is_empty() {
+        return Err(OptionFault::Missing(Where::Word(0)));
+    }
+    if !is_in_range(&draft.numbers) {
+        return Err(OptionFault::Range(Where::Word(0)));
+    }
+    let Ok(plan) = planned(alloc, draft) else {
+        return Err(OptionFault::NoMemory);
+    };
+    Ok(plan)
 }
 
 /// Reads the command words and the INI files that they name: the plan of the run, or the first refusal with its word

@@ -1,8 +1,8 @@
 -- Piece by piece.
-use Rattle.std.proofs.Common.{◌≡◌, ℕ, ◌<◌, ◌+◌, ◌==◌, List, length, take, drop, Bool, true, false, sym, ap, ◌∙◌, arith}
+use Rattle.std.proofs.Common.{◌≡◌, ℕ, ◌<◌, ◌==◌, List, length, false, sym, ap, ◌∙◌, arith}
 use Rattle.std.specs.List.{list_all}
 use Rattle.std.proofs.lemmas.Bool.Decides.{nat_tests}
-use Rattle.options.specs.Ini.{is_signed, is_fine, pieces}
+use Rattle.options.specs.Ini.{is_signed, pieces}
 use Rattle.options.proofs.Pieces.{all_step, all_fails}
 use Rattle.options.proofs.ini.are_signed.Goals as goal
 

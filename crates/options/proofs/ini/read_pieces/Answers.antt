@@ -1,5 +1,5 @@
 -- Piece by piece.
-use Rattle.std.proofs.Common.{◌≡◌, ℕ, ◌<◌, ◌+◌, ◌==◌, List, length, take, drop, true, false, Ok, Err, sym, ap, subst, ◌∙◌, arith}
+use Rattle.std.proofs.Common.{◌≡◌, ℕ, ◌<◌, ◌+◌, ◌==◌, List, length, take, drop, true, false, Err, sym, ap, subst, ◌∙◌, arith}
 use Rattle.std.proofs.lemmas.Bool.Decides.{nat_tests}
 use Rattle.options.specs.Outcomes.{◌>>=◌, Answers}
 use Rattle.options.specs.Ini.{pieces, piece_read, pieces_read}

@@ -1,8 +1,8 @@
 -- All words, and then what is left to see.
-use Rattle.std.proofs.Common.{◌≡◌, ◌≤◌, ◌<◌, length, map, string_bytes, Err, sym, subst, arith}
+use Rattle.std.proofs.Common.{map, string_bytes, Err, sym, subst, arith}
 use Rattle.std.proofs.lemmas.List.{length-map}
 use Rattle.options.specs.Drafts.{first_draft}
-use Rattle.options.specs.Outcomes.{◌>>=◌, Reads}
+use Rattle.options.specs.Outcomes.{Reads}
 use Rattle.options.specs.Plans.{words_read, completed}
 use Rattle.options.proofs.Lists.{length-map-le}
 use Rattle.options.proofs.WordLemmas.{stops, goes, plan-many, plan-few}

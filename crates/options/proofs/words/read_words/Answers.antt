@@ -1,7 +1,5 @@
 -- Word by word.
-use Rattle.std.proofs.Common.{◌≡◌, ◌+◌, ◌≤◌, List, ℕ, Some, drop, map, string_bytes, Ok, Err, Result, sym, ap, subst, ◌∙◌, arith}
-use Rattle.directive_machine.specs.declared.texts.Text.{Text}
-use Rattle.options.specs.declared.draft.Draft.{Draft}
+use Rattle.std.proofs.Common.{◌≡◌, ◌+◌, drop, map, string_bytes, Ok, Err, sym, ap, subst, ◌∙◌, arith}
 use Rattle.options.specs.Outcomes.{◌>>=◌, Reads}
 use Rattle.options.specs.Plans.{word_read, words_read}
 use Rattle.options.proofs.Lists.{drop-map-item, drop-map-all}
