@@ -1,0 +1,5 @@
+mod Readings
+mod Moves
+mod Blocks
+mod Colours
+mod Lamps

@@ -1,0 +1,16 @@
+use Rattle.std.proofs.Common.{sym, List, ℤ}
+use Rattle.item_blocks.specs.Parameters.{light_of}
+use Rattle.item_blocks.proofs.Readings.{exit, parameter_fault, parameter_refused, parameter_found}
+use Rattle.item_blocks.proofs.parameters.light.Goals as goal
+
+pub returns-in_err-value-clause-fault : goal.returns-in_err-value-clause-fault
+returns-in_err-value-clause-fault c =
+    exit _ _ _ c.from_residual.ensures.1 (λ some. parameter_fault (List ℤ) light_of _ _ _ _ (c.in_err-value.ensures.fault some))
+
+pub returns-in_err-light_of-clause-fault : goal.returns-in_err-light_of-clause-fault
+returns-in_err-light_of-clause-fault c =
+    exit _ _ _ c.from_residual-in_err-light_of.ensures.1 (λ some. parameter_refused (List ℤ) light_of _ _ _ _ _ _ c.in_ok-value.ensures.found (rw (sym c.place_at.ensures) (sym c.in_err-light_of.ensures.value)))
+
+pub returns-clause-found : goal.returns-clause-found
+returns-clause-found c =
+    parameter_found (List ℤ) light_of _ _ _ _ _ _ c.in_ok-value.ensures.found (rw (sym c.place_at.ensures) (sym c.in_ok-light_of.ensures.value))

@@ -1,0 +1,17 @@
+use Rattle.std.proofs.Common.{sym}
+use Rattle.item_blocks.specs.declared.pigment.PigmentDraft.{PigmentDraft}
+use Rattle.item_blocks.specs.Pigments.{pigment_with}
+use Rattle.item_blocks.proofs.Readings.{exit, parameter_fault, parameter_refused, parameter_found}
+use Rattle.item_blocks.proofs.pigment.take_size.Goals as goal
+
+pub returns-in_err-value-clause-fault : goal.returns-in_err-value-clause-fault
+returns-in_err-value-clause-fault c =
+    exit _ _ _ c.from_residual.ensures.1 (λ some. parameter_fault PigmentDraft (pigment_with c.args.draft.now c.args.word) _ _ _ _ (c.in_err-value.ensures.fault some))
+
+pub returns-in_err-parameter-clause-fault : goal.returns-in_err-parameter-clause-fault
+returns-in_err-parameter-clause-fault c =
+    exit _ _ _ c.from_residual-in_err-parameter.ensures.1 (λ some. parameter_refused PigmentDraft (pigment_with c.args.draft.now c.args.word) _ _ _ _ _ _ c.in_ok-value.ensures.found (rw (sym c.place_at.ensures) c.in_err-parameter.ensures.fault))
+
+pub returns-clause-found : goal.returns-clause-found
+returns-clause-found c =
+    parameter_found PigmentDraft (pigment_with c.args.draft.now c.args.word) _ _ _ _ _ _ c.in_ok-value.ensures.found (rw (sym c.place_at.ensures) c.in_ok-parameter.ensures.found)

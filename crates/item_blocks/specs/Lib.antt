@@ -1,0 +1,10 @@
+pub mod Words
+pub mod Tokens
+pub mod Parameters
+pub mod Steps
+pub mod Blocks
+pub mod Finishes
+pub mod Pigments
+pub mod Textures
+pub mod Lamps
+pub mod OneBlock
