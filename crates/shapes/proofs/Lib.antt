@@ -11,3 +11,8 @@ pub mod Terms
 pub mod MakingLemmas
 pub mod Rooms
 pub mod Failing
+pub mod OutwardLemmas
+pub mod Inner
+pub mod Digits
+pub mod QuadricLemmas
+pub mod Joined

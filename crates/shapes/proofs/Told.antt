@@ -1,7 +1,7 @@
 -- The faces of solids as tests, and as facts that rows of numbers are narrowed by.
 use lib.Dec.{leb}
 use lib.Signed.{le_z}
-use Rattle.std.proofs.Common.{ℕ, ℤ, pos, ◌<◌, ◌≤◌, ◌^◌, ◌+ℤ◌, ◌-ℤ◌, ◌≤ℤ◌, ◌≡◌, ◌↔◌, ◌⊎◌, inl, inr, ⊎_elim, refl, sym, arith, unsigned_abs, Bool, true, false, ◌&&◌, ◌||◌, nat_le, nat_lt, int_le, [], ◌∷◌, ◌++◌}
+use Rattle.std.proofs.Common.{ℕ, ℤ, pos, ◌<◌, ◌≤◌, ◌^◌, ◌+ℤ◌, ◌-ℤ◌, ◌≤ℤ◌, ◌≡◌, ◌↔◌, ◌⊎◌, ◌∙◌, inl, inr, ⊎_elim, refl, sym, arith, unsigned_abs, Bool, true, false, ◌&&◌, ◌||◌, nat_le, nat_lt, int_le, [], ◌∷◌, ◌++◌}
 use Rattle.std.proofs.lemmas.Int.{ints}
 use Rattle.std.proofs.lemmas.Bool.Decides.{nat_tests}
 use Rattle.fix_math.specs.declared.fix.V3.{V3}
@@ -212,3 +212,10 @@ capped_told s t end face seen h z l capped e ez f g =
 -- how far a point of the world is from an anchor in it
 pub near_anchor : (a p : ℤ) → unsigned_abs a ≤ 2 ^ 28 → unsigned_abs p ≤ 2 ^ 44 → unsigned_abs (offset_from a p) ≤ 2 ^ 45
 near_anchor a p h k = omega (arith, ints)
+
+-- the numbers of a path in a solid, from those of its stretches
+pub path_numbers : (s : Stretches) (t end : ℕ) (faces : Bool) (a : Type 0) → is_in_stretches s t ≡ (nat_lt t end && faces) → a ↔ IsInStretches s t → a ↔ ((t < end) × (faces ≡ true))
+path_numbers s t end faces a e f =
+    let k = and_test (nat_lt t end) faces (t < end) (faces ≡ true) (lt_test t end) ((λ h. h), (λ h. h)) in
+    let m = stretches_test s t in
+    (λ x. k.0 (sym e ∙ m.1 (f.0 x)), λ y. f.1 (m.0 (e ∙ k.1 y)))

@@ -95,8 +95,8 @@ is_short q bits i = nat_lt (unsigned_abs (component q i)) (2 ^ bits)
 
 abbrev pub are_small : List ℤ → Bool
 are_small q =
-    is_short q 32 0 && (is_short q 32 1 && (is_short q 32 2 && (is_short q 32 3 && (is_short q 32 4 && (is_short q 32 5
-    && (is_short q 76 6 && (is_short q 76 7 && (is_short q 76 8 && is_short q 121 9))))))))
+    (is_short q 32 0 && (is_short q 32 1 && is_short q 32 2)) && ((is_short q 32 3 && (is_short q 32 4 && is_short q 32 5))
+    && ((is_short q 76 6 && (is_short q 76 7 && is_short q 76 8)) && is_short q 121 9))
 
 -- with the fewest bits less that make them small
 abbrev pub quadric_of : List ℤ → Xform → List ℤ

@@ -8,3 +8,6 @@ pub mod Faces
 pub mod Bodies
 pub mod Curves
 pub mod Solids
+pub mod Quadrics
+pub mod Outward
+pub mod Growths

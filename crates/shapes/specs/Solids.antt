@@ -1,13 +1,12 @@
 -- The faces of the solids of leaves.
-use Rattle.std.specs.Prelude.{List, [], ◌∷◌, Bool, false, ◌≡◌, ℤ}
-use Rattle.scene_model.specs.declared.shape.Leaf.{Leaf}
+use Rattle.std.specs.Prelude.{List, [], ◌∷◌, Bool, false}
 use Rattle.scene_model.specs.declared.shape.Primitive.{Primitive}
 use Rattle.shapes.specs.Bodies.{globe_faces, cuboid_faces, half_space_faces, tube_faces, taper_faces, conic_faces, own_of, taper_radius}
 use Rattle.shapes.specs.Faces.{seen_from, in_pipe, in_taper}
 use Rattle.shapes.specs.Rays.{Position}
-use Rattle.shapes.specs.declared.solid.Body.{Body}
-use Rattle.shapes.specs.declared.solid.Body.TheVariants.{Ball, Block, Half, Pipe, Cone, Bowl}
-use Rattle.shapes.specs.declared.solid.Solid.{Solid}
+use Rattle.shapes.specs.declared.body.Body.{Body}
+use Rattle.shapes.specs.declared.body.Body.TheVariants.{Ball, Block, Half, Pipe, Cone, Bowl}
+use Rattle.shapes.specs.declared.body.Solid.{Solid}
 
 abbrev pub body_faces : Body → Position → List Bool
 body_faces (Ball globe) p = globe_faces globe p
@@ -43,7 +42,3 @@ is_uncapped (Primitive.Plane normal d) = false
 is_uncapped (Primitive.Cylinder r h uncapped) = uncapped
 is_uncapped (Primitive.Cone ra rb h axis uncapped) = uncapped
 is_uncapped (Primitive.Quadric c) = false
-
--- the leaf is a quadric
-abbrev pub IsQuadricLeaf : Leaf → Type 0
-IsQuadricLeaf leaf = (c : List ℤ) × (leaf.prim ≡ Primitive.Quadric c)

@@ -89,6 +89,8 @@ impl Axes {
     ghost use Rattle.fix_math.specs.declared.fix.V3.{V3 as Vector};
     ghost use Rattle.xform.specs.Placing.{IsSpot};
     ghost use Rattle.shapes.specs.Faces.{own};
+    ghost use Rattle.shapes.specs.Growths.{form_row};
+    ghost use Rattle.shapes.specs.Outward.{axis_of};
     ghost use Rattle.shapes.specs.Bodies.{own_of};
 
     /// The axes of a leaf's spot.
@@ -96,6 +98,9 @@ impl Axes {
         requires { IsSpot spot.now }
         ensures anchor { result.anchor ≡ spot.now.anchor }
         ensures own { (u : Vector) → own_of result u ≡ own spot.now u }
+        ensures first { form_row result.first ≡ axis_of spot.now 0 }
+        ensures second { form_row result.second ≡ axis_of spot.now 1 }
+        ensures third { form_row result.third ≡ axis_of spot.now 2 }
     {
         Axes {
             anchor: spot.anchor,

@@ -1,8 +1,9 @@
 // Quadrics.
-ghost use Rattle.std.specs.Prelude.{◌≡◌, ℕ, ◌≤◌, ◌^◌, ◌&&◌, nat_lt, unsigned_abs};
+ghost use Rattle.std.specs.Prelude.{◌≡◌, ℕ, ◌≤◌, ◌^◌, ◌&&◌, ◌+ℤ◌, nat_lt, unsigned_abs};
 ghost use Rattle.fix_math.specs.Matrices.{IsVectorWithin};
 
 use crate::curve::Curve;
+use crate::outward::{Component, Outward};
 use crate::parts::{Stretches, parts};
 use crate::path::Path;
 use crate::ray::Point;
@@ -184,6 +185,17 @@ impl Parts {
     }
 }
 
+/// How a quadric's number grows with a coordinate: by its linear term, its square's, and two products'.
+#[inline]
+fn slope(linear: LinearTerm, square: Share, product: Share, other: Share) -> Component
+    ensures { result.value ≡ linear.value +ℤ square.value +ℤ square.value +ℤ product.value +ℤ other.value }
+{
+    let growth = linear.growth().plus(square).plus(square).plus(product);
+    Component {
+        value: growth.value + other.value,
+    }
+}
+
 impl Curve for Bowl {
     ghost use Rattle.std.specs.Prelude.{◌<◌};
     ghost use Rattle.shapes.specs.Bodies.{terms_at};
@@ -217,6 +229,8 @@ impl Curve for Bowl {
 }
 
 impl Conic {
+    ghost use Rattle.shapes.specs.Growths.{conic_outward};
+    ghost use Rattle.shapes.specs.Outward.{unit_towards};
     ghost use Rattle.shapes.specs.Bodies.{conic_faces};
     ghost use Rattle.shapes.specs.Faces.{all_hold, first_failing};
     ghost use Rattle.shapes.specs.Lines.{is_in_stretches};
@@ -251,5 +265,23 @@ impl Conic {
             sight,
         };
         if bowl.at(0) <= 0 { None } else { Some(0) }
+    }
+
+    /// The direction out of the quadric at a point.
+    pub fn normal(&self, p: &Point) -> V3
+        requires { IsInWorld (position_of p.now) }
+        ensures { result ≡ unit_towards (conic_outward self.now (position_of p.now)) }
+    {
+        let sight = Sight::of_point(&self.anchor, p);
+        let q = &self.terms;
+        let x = sight.x.coordinate_at(0);
+        let y = sight.y.coordinate_at(0);
+        let z = sight.z.coordinate_at(0);
+        Outward {
+            x: slope(q.x, q.xx.times(x), q.xy.times(y), q.xz.times(z)),
+            y: slope(q.y, q.yy.times(y), q.xy.times(x), q.yz.times(z)),
+            z: slope(q.z, q.zz.times(z), q.xz.times(x), q.yz.times(y)),
+        }
+        .unit()
     }
 }

@@ -5,12 +5,14 @@ ghost use Rattle.shapes.specs.Lines.{is_in_stretches};
 ghost use Rattle.shapes.specs.Rays.{point_at};
 
 use crate::axes::Axes;
+use crate::outward::unit_out_of_ends;
 use crate::parts::Stretches;
 use crate::path::Path;
 use crate::ray::Point;
 use crate::sight::Sight;
 use crate::span::Span;
 use crate::wide::Length;
+use fix_math::V3;
 
 /// A box by its axes and its sides. (Reference manual, box)
 #[derive(Clone, Copy)]
@@ -22,6 +24,8 @@ pub struct Cuboid {
 }
 
 impl Cuboid {
+    ghost use Rattle.shapes.specs.Growths.{cuboid_outward};
+    ghost use Rattle.shapes.specs.Outward.{unit_towards};
     ghost use Rattle.shapes.specs.Faces.{first_failing};
     ghost use Rattle.shapes.specs.Rays.{IsInWorld, position_of};
     ghost use Rattle.shapes.specs.Bodies.{cuboid_faces};
@@ -68,6 +72,19 @@ impl Cuboid {
             Some(5)
         } else {
             None
+        }
+    }
+
+    /// The direction out of a face.
+    pub fn normal(&self, face: u8) -> V3
+        ensures { result ≡ unit_towards (cuboid_outward self.now face) }
+    {
+        if face < 2 {
+            unit_out_of_ends(&self.axes.first, face)
+        } else if face < 4 {
+            unit_out_of_ends(&self.axes.second, face - 2)
+        } else {
+            unit_out_of_ends(&self.axes.third, face - 4)
         }
     }
 }

@@ -7,12 +7,14 @@ ghost use Rattle.shapes.specs.Rays.{point_at};
 use crate::axes::Axes;
 use crate::curve::Curve;
 use crate::measure::less_square_of_three;
+use crate::outward::Outward;
 use crate::parts::{Stretches, parts};
 use crate::path::Path;
 use crate::ray::Point;
 use crate::sight::Sight;
 use crate::span::Span;
 use crate::wide::{Length, WideLine};
+use fix_math::V3;
 
 /// A sphere by its axes. (Reference manual, sphere)
 #[derive(Clone, Copy)]
@@ -53,6 +55,8 @@ impl Curve for Ball {
 }
 
 impl Globe {
+    ghost use Rattle.shapes.specs.Growths.{globe_outward};
+    ghost use Rattle.shapes.specs.Outward.{unit_towards};
     ghost use Rattle.shapes.specs.Faces.{first_failing};
     ghost use Rattle.shapes.specs.Rays.{IsInWorld, position_of};
     ghost use Rattle.shapes.specs.Bodies.{globe_faces, own_of};
@@ -114,5 +118,19 @@ impl Globe {
         } else {
             Some(0)
         }
+    }
+
+    /// The direction out of the sphere at a point of it.
+    pub fn normal(&self, p: &Point) -> V3
+        requires world { IsInWorld (position_of p.now) }
+        requires inside { all_hold (globe_faces self.now (position_of p.now)) ≡ true }
+        ensures { result ≡ unit_towards (globe_outward self.now (position_of p.now)) }
+    {
+        let axes = &self.axes;
+        let sight = Sight::of_point(&axes.anchor, p);
+        let x = axes.first.along(&sight).measure(0);
+        let y = axes.second.along(&sight).measure(0);
+        let z = axes.third.along(&sight).measure(0);
+        Outward::of_ball(x, &axes.first, y, &axes.second, z, &axes.third).unit()
     }
 }

@@ -3,6 +3,7 @@ ghost use Rattle.std.specs.Prelude.{◌≡◌, ℕ, ◌≤◌, ◌^◌, ◌&&◌
 ghost use Rattle.fix_math.specs.Matrices.{IsVectorWithin};
 
 use crate::axes::WideForm;
+use crate::outward::Outward;
 use crate::parts::Stretches;
 use crate::path::Path;
 use crate::ray::Point;
@@ -22,6 +23,8 @@ pub struct HalfSpace {
 }
 
 impl HalfSpace {
+    ghost use Rattle.shapes.specs.Growths.{wide_form_row};
+    ghost use Rattle.shapes.specs.Outward.{unit_towards};
     ghost use Rattle.shapes.specs.Faces.{first_failing};
     ghost use Rattle.shapes.specs.Rays.{IsInWorld, position_of};
     ghost use Rattle.shapes.specs.Bodies.{half_space_faces};
@@ -56,5 +59,12 @@ impl HalfSpace {
         } else {
             Some(0)
         }
+    }
+
+    /// The direction out of the plane.
+    pub fn normal(&self) -> V3
+        ensures { result ≡ unit_towards (wide_form_row self.now.row) }
+    {
+        Outward::along_wide(&self.row).unit()
     }
 }

@@ -1,14 +1,16 @@
 // Solids from their lengths and places.
 ghost use Rattle.std.specs.Prelude.{◌≡◌, ℕ, pos, ◌+◌, ◌*◌, ◌^◌, ◌<◌, ◌≤◌, ◌≤ℤ◌, ◌+ℤ◌, ◌-ℤ◌, ◌*ℤ◌, ◌-◌, List, [], ◌∷◌, ◌++◌, unsigned_abs, int_le};
-ghost use Rattle.fix_math.specs.Matrices.{IsRowWithin, IsVectorWithin, component, along};
-ghost use Rattle.fix_math.specs.Vectors.{dot_of};
+ghost use Rattle.fix_math.specs.Matrices.{IsRowWithin, IsVectorWithin, component, along, entry, vector};
+ghost use Rattle.fix_math.specs.Vectors.{dot, dot_of};
 ghost use Rattle.fix_math.specs.declared.fix.V3.{V3 as Vector};
 ghost use Rattle.std.specs.Int.{int_max};
 ghost use Rattle.fix_math.specs.Numbers.{rnd};
 ghost use Rattle.xform.specs.Placing.{IsSpot};
 ghost use Rattle.xform.specs.Transforms.{IsPlaced};
 ghost use Rattle.shapes.specs.Bodies.{globe_faces, cuboid_faces, half_space_faces, taper_faces, tube_faces, wide_form_at};
-ghost use Rattle.shapes.specs.Faces.{seen_from, own, long, in_ball, in_pipe, in_taper, radius_at, ends};
+ghost use Rattle.shapes.specs.Faces.{seen_from, own, long, in_ball, in_pipe, in_taper, radius_at, slope_of, ends};
+ghost use Rattle.shapes.specs.Growths.{globe_outward, cuboid_outward, wide_form_row, tube_outward, taper_outward};
+ghost use Rattle.shapes.specs.Outward.{axis_of, difference, multiple, out_of_ball, out_of_box, out_of_pipe, out_of_side};
 ghost use Rattle.shapes.specs.Rays.{Position};
 
 use crate::axes::{Axes, Form, WideForm};
@@ -68,17 +70,17 @@ impl Limit {
 
 /// An entry of a spot's way to its axes.
 #[derive(Clone, Copy)]
-struct Entry {
-    value: i64,
+pub struct Entry {
+    pub value: i64,
     ghost small: { unsigned_abs value ≤ 2 ^ 46 },
 }
 
-/// A row of entries.
+/// A row of entries, or a column.
 #[derive(Clone, Copy)]
-struct Row {
-    x: Entry,
-    y: Entry,
-    z: Entry,
+pub struct Row {
+    pub x: Entry,
+    pub y: Entry,
+    pub z: Entry,
 }
 
 /// A product of a direction's component with an entry.
@@ -89,7 +91,7 @@ struct Share {
 }
 
 impl Row {
-    fn of(row: &[i64; 3]) -> Row
+    pub fn of(row: &[i64; 3]) -> Row
         requires { IsRowWithin (2 ^ 46) row.now }
         ensures x { result.x.value ≡ component row.now 0 }
         ensures y { result.y.value ≡ component row.now 1 }
@@ -100,6 +102,14 @@ impl Row {
             y: Entry { value: row[1] },
             z: Entry { value: row[2] },
         }
+    }
+
+    pub fn column(x: Entry, y: Entry, z: Entry) -> Row
+        ensures x { result.x.value ≡ x.value }
+        ensures y { result.y.value ≡ y.value }
+        ensures z { result.z.value ≡ z.value }
+    {
+        Row { x, y, z }
     }
 }
 
@@ -133,7 +143,8 @@ fn mixed(normal: &V3, a: Entry, b: Entry, c: Entry) -> WideFactor
 fn plane_row(spot: &Spot, normal: &V3) -> WideForm
     requires spot { IsSpot spot.now }
     requires direction { IsVectorWithin 65537 normal.now }
-    ensures { (u : Vector) → wide_form_at result u ≡ dot_of normal.now (own spot.now u) }
+    ensures value { (u : Vector) → wide_form_at result u ≡ dot_of normal.now (own spot.now u) }
+    ensures row { wide_form_row result ≡ vector (λ j. dot (along normal.now) (λ i. entry spot.now.n i j)) }
 {
     let first = Row::of(&spot.n[0]);
     let second = Row::of(&spot.n[1]);
@@ -149,8 +160,10 @@ pub fn globe(spot: &Spot, r: Fix) -> Globe
     requires spot { IsSpot spot.now }
     requires low { pos 0 ≤ℤ r }
     requires room { unsigned_abs r * 2 ^ spot.now.e < 2 ^ 45 }
-    ensures { (p : Position) → globe_faces result p
+    ensures faces { (p : Position) → globe_faces result p
         ≡ in_ball (long spot.now r) (own spot.now (seen_from spot.now.anchor p)) ∷ [] }
+    ensures outward { (p : Position) → globe_outward result p
+        ≡ out_of_ball (own spot.now (seen_from spot.now.anchor p)) (axis_of spot.now 0) (axis_of spot.now 1) (axis_of spot.now 2) }
 {
     let axes = Axes::of(spot);
     let radius = Length::of(spot, r);
@@ -166,10 +179,12 @@ pub fn cuboid(spot: &Spot, size: &V3) -> Cuboid
     requires x_room { unsigned_abs size.now.x * 2 ^ spot.now.e < 2 ^ 45 }
     requires y_room { unsigned_abs size.now.y * 2 ^ spot.now.e < 2 ^ 45 }
     requires z_room { unsigned_abs size.now.z * 2 ^ spot.now.e < 2 ^ 45 }
-    ensures { (p : Position) → cuboid_faces result p
+    ensures faces { (p : Position) → cuboid_faces result p
         ≡ ends (long spot.now size.now.x) (own spot.now (seen_from spot.now.anchor p)).x
         ++ (ends (long spot.now size.now.y) (own spot.now (seen_from spot.now.anchor p)).y
         ++ ends (long spot.now size.now.z) (own spot.now (seen_from spot.now.anchor p)).z) }
+    ensures outward { (face : ℕ) → cuboid_outward result face
+        ≡ out_of_box (axis_of spot.now 0) (axis_of spot.now 1) (axis_of spot.now 2) face }
 {
     let axes = Axes::of(spot);
     let x = Length::of(spot, size.x);
@@ -183,8 +198,9 @@ pub fn half_space(spot: &Spot, normal: &V3, d: Fix) -> HalfSpace
     requires spot { IsSpot spot.now }
     requires direction { IsVectorWithin 65537 normal.now }
     requires room { unsigned_abs d * 2 ^ spot.now.e < 2 ^ 45 }
-    ensures { (p : Position) → half_space_faces result p
+    ensures faces { (p : Position) → half_space_faces result p
         ≡ int_le (dot_of normal.now (own spot.now (seen_from spot.now.anchor p))) (d *ℤ pos (2 ^ (spot.now.e + 32))) ∷ [] }
+    ensures outward { wide_form_row result.row ≡ vector (λ j. dot (along normal.now) (λ i. entry spot.now.n i j)) }
 {
     let row = plane_row(spot, normal);
     let limit = Limit::of(spot, d);
@@ -202,9 +218,11 @@ pub fn tube(spot: &Spot, r: Fix, h: Fix) -> Tube
     requires h_low { pos 0 ≤ℤ h }
     requires r_room { unsigned_abs r * 2 ^ spot.now.e < 2 ^ 45 }
     requires h_room { unsigned_abs h * 2 ^ spot.now.e < 2 ^ 45 }
-    ensures { (p : Position) → tube_faces result p
+    ensures faces { (p : Position) → tube_faces result p
         ≡ in_pipe (long spot.now r) (own spot.now (seen_from spot.now.anchor p))
         ∷ ends (long spot.now h) (own spot.now (seen_from spot.now.anchor p)).z }
+    ensures outward { (p : Position) (face : ℕ) → tube_outward result p face
+        ≡ out_of_side (out_of_pipe (own spot.now (seen_from spot.now.anchor p)) (axis_of spot.now 0) (axis_of spot.now 1)) (axis_of spot.now 2) face }
 {
     let axes = Axes::of(spot);
     let radius = Length::of(spot, r);
@@ -281,6 +299,35 @@ fn greater(a: Fix, b: Fix) -> Fix
     if b.raw() < a.raw() { a } else { b }
 }
 
+/// How the radius of a cone grows with each coordinate.
+fn slopes(xform: &Xform, spot: &Spot, ra: Fix, rb: Fix, h: Fix, axis: &V3) -> Form
+    requires e { spot.now.e ≤ 32 }
+    requires placed { IsPlaced xform.now }
+    requires axis { IsVectorWithin 65537 axis.now }
+    requires ra_low { pos 0 ≤ℤ ra }
+    requires rb_low { pos 0 ≤ℤ rb }
+    requires ra_small { unsigned_abs ra ≤ 2 ^ 28 }
+    requires rb_small { unsigned_abs rb ≤ 2 ^ 28 }
+    requires some { pos 1 ≤ℤ h }
+    requires h_small { unsigned_abs h ≤ 2 ^ 30 }
+    requires ra_room { unsigned_abs ra * 2 ^ spot.now.e < 2 ^ 45 }
+    requires rb_room { unsigned_abs rb * 2 ^ spot.now.e < 2 ^ 45 }
+    ensures x { result.x.value ≡ slope_of ra rb h axis.now xform.now spot.now 0 }
+    ensures y { result.y.value ≡ slope_of ra rb h axis.now xform.now spot.now 1 }
+    ensures z { result.z.value ≡ slope_of ra rb h axis.now xform.now spot.now 2 }
+{
+    let first = Row::of(&xform.n[0]);
+    let second = Row::of(&xform.n[1]);
+    let third = Row::of(&xform.n[2]);
+    let along_x = mixed(axis, first.x, second.x, third.x);
+    let along_y = mixed(axis, first.y, second.y, third.y);
+    let along_z = mixed(axis, first.z, second.z, third.z);
+    let x = slope(ra, rb, h, spot.e, along_x);
+    let y = slope(ra, rb, h, spot.e, along_y);
+    let z = slope(ra, rb, h, spot.e, along_z);
+    Form { x, y, z }
+}
+
 /// A cone by its place, radii, height and axis.
 pub fn taper(xform: &Xform, spot: &Spot, ra: Fix, rb: Fix, h: Fix, axis: &V3) -> Taper
     requires spot { IsSpot spot.now }
@@ -295,24 +342,20 @@ pub fn taper(xform: &Xform, spot: &Spot, ra: Fix, rb: Fix, h: Fix, axis: &V3) ->
     requires ra_room { unsigned_abs ra * 2 ^ spot.now.e < 2 ^ 45 }
     requires rb_room { unsigned_abs rb * 2 ^ spot.now.e < 2 ^ 45 }
     requires h_room { unsigned_abs h * 2 ^ spot.now.e < 2 ^ 45 }
-    ensures { (p : Position) → taper_faces result p
+    ensures faces { (p : Position) → taper_faces result p
         ≡ in_taper (long spot.now (int_max ra rb)) (radius_at ra rb h axis.now xform.now spot.now (seen_from spot.now.anchor p)) (own spot.now (seen_from spot.now.anchor p))
         ∷ ends (long spot.now h) (own spot.now (seen_from spot.now.anchor p)).z }
+    ensures outward { (p : Position) (face : ℕ) → taper_outward result p face
+        ≡ out_of_side
+        (difference (out_of_pipe (own spot.now (seen_from spot.now.anchor p)) (axis_of spot.now 0) (axis_of spot.now 1))
+        (multiple (radius_at ra rb h axis.now xform.now spot.now (seen_from spot.now.anchor p)) (vector (slope_of ra rb h axis.now xform.now spot.now))))
+        (axis_of spot.now 2) face }
 {
     let axes = Axes::of(spot);
     let widest = Length::of(spot, greater(ra, rb));
     let start = Length::of(spot, ra);
     let height = Length::of(spot, h);
-    let first = Row::of(&xform.n[0]);
-    let second = Row::of(&xform.n[1]);
-    let third = Row::of(&xform.n[2]);
-    let along_x = mixed(axis, first.x, second.x, third.x);
-    let along_y = mixed(axis, first.y, second.y, third.y);
-    let along_z = mixed(axis, first.z, second.z, third.z);
-    let x = slope(ra, rb, h, spot.e, along_x);
-    let y = slope(ra, rb, h, spot.e, along_y);
-    let z = slope(ra, rb, h, spot.e, along_z);
-    let slope = Form { x, y, z };
+    let slope = slopes(xform, spot, ra, rb, h, axis);
     Taper {
         axes,
         widest,

@@ -6,7 +6,7 @@ use crate::aim::{Side, approach, excess, guess, is_away};
 use crate::curve::Curve;
 use crate::near::valley_near;
 use crate::path::{Path, is_near};
-use crate::ranges::Ranges;
+use crate::range_pairs::Ranges;
 use crate::ray::Ray;
 use crate::sight::Sight;
 use crate::span::{Line, Span};

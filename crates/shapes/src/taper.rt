@@ -7,12 +7,14 @@ ghost use Rattle.shapes.specs.Rays.{point_at};
 use crate::axes::{Axes, Form};
 use crate::curve::Curve;
 use crate::measure::less_square;
+use crate::outward::{Outward, unit_out_of_ends};
 use crate::parts::{Stretches, parts};
 use crate::path::Path;
 use crate::ray::Point;
 use crate::sight::Sight;
 use crate::span::Span;
 use crate::wide::{Length, WideLine};
+use fix_math::V3;
 
 /// A cone along the third of its axes. (Reference manual, cone)
 #[derive(Clone, Copy)]
@@ -57,6 +59,8 @@ impl Curve for Funnel {
 }
 
 impl Taper {
+    ghost use Rattle.shapes.specs.Growths.{taper_outward};
+    ghost use Rattle.shapes.specs.Outward.{unit_towards};
     ghost use Rattle.shapes.specs.Faces.{first_failing, seen_from};
     ghost use Rattle.shapes.specs.Rays.{IsInWorld, position_of};
     ghost use Rattle.shapes.specs.Bodies.{taper_faces, taper_radius, own_of};
@@ -136,5 +140,22 @@ impl Taper {
         let sight = Sight::of_path(&self.axes.anchor, path);
         let end = path.end;
         self.shell(&sight, Span { from: 0, end })
+    }
+
+    /// The direction out of a face at a point of the cone.
+    pub fn normal(&self, p: &Point, face: u8) -> V3
+        requires world { IsInWorld (position_of p.now) }
+        requires inside { all_hold (taper_faces self.now (position_of p.now)) ≡ true }
+        ensures { result ≡ unit_towards (taper_outward self.now (position_of p.now) face) }
+    {
+        let axes = &self.axes;
+        if face != 0 {
+            return unit_out_of_ends(&axes.third, face - 1);
+        }
+        let sight = Sight::of_point(&axes.anchor, p);
+        let x = axes.first.along(&sight).measure(0);
+        let y = axes.second.along(&sight).measure(0);
+        let radius = self.slope.along(&sight).more(self.start).measure(0);
+        Outward::of_taper(x, &axes.first, y, &axes.second, radius, &self.slope).unit()
     }
 }

@@ -7,12 +7,14 @@ ghost use Rattle.shapes.specs.Rays.{point_at};
 use crate::axes::Axes;
 use crate::curve::Curve;
 use crate::measure::less_square;
+use crate::outward::{Outward, unit_out_of_ends};
 use crate::parts::{Stretches, parts};
 use crate::path::Path;
 use crate::ray::Point;
 use crate::sight::Sight;
 use crate::span::Span;
 use crate::wide::{Length, WideLine};
+use fix_math::V3;
 
 /// A cylinder along the third of its axes. (Reference manual, cylinder)
 #[derive(Clone, Copy)]
@@ -53,6 +55,8 @@ impl Curve for Pipe {
 }
 
 impl Tube {
+    ghost use Rattle.shapes.specs.Growths.{tube_outward};
+    ghost use Rattle.shapes.specs.Outward.{unit_towards};
     ghost use Rattle.shapes.specs.Faces.{first_failing, seen_from};
     ghost use Rattle.shapes.specs.Rays.{IsInWorld, position_of};
     ghost use Rattle.shapes.specs.Bodies.{tube_faces, own_of};
@@ -129,5 +133,21 @@ impl Tube {
         let sight = Sight::of_path(&self.axes.anchor, path);
         let end = path.end;
         self.shell(&sight, Span { from: 0, end })
+    }
+
+    /// The direction out of a face at a point of the cylinder.
+    pub fn normal(&self, p: &Point, face: u8) -> V3
+        requires world { IsInWorld (position_of p.now) }
+        requires inside { all_hold (tube_faces self.now (position_of p.now)) ≡ true }
+        ensures { result ≡ unit_towards (tube_outward self.now (position_of p.now) face) }
+    {
+        let axes = &self.axes;
+        if face != 0 {
+            return unit_out_of_ends(&axes.third, face - 1);
+        }
+        let sight = Sight::of_point(&axes.anchor, p);
+        let x = axes.first.along(&sight).measure(0);
+        let y = axes.second.along(&sight).measure(0);
+        Outward::of_pipe(x, &axes.first, y, &axes.second).unit()
     }
 }

@@ -1,6 +1,7 @@
 // The solid of a leaf.
-ghost use Rattle.std.specs.Prelude.{◌≡◌, ◌↔◌, ℕ, ◌&&◌, nat_lt, IfSome, IsNone};
+ghost use Rattle.std.specs.Prelude.{◌≡◌, ◌↔◌, ℕ, ◌&&◌, nat_lt, true, false};
 
+use crate::coefficients::conic;
 use crate::conic::Conic;
 use crate::cuboid::Cuboid;
 use crate::globe::Globe;
@@ -8,9 +9,12 @@ use crate::half_space::HalfSpace;
 use crate::making::{cuboid, globe, half_space, taper, tube};
 use crate::parts::Stretches;
 use crate::path::Path;
+use crate::range_pairs::Ranges;
 use crate::ray::Point;
 use crate::taper::Taper;
 use crate::tube::Tube;
+use crate::volume::Volume;
+use fix_math::V3;
 use scene_model::{Leaf, Primitive};
 
 /// What a leaf is a part of the world by, ready to be met by rays: all that depends on the leaf alone is
@@ -38,44 +42,55 @@ impl Solid {
     ghost use Rattle.shapes.specs.Faces.{all_hold, faces_of, first_failing};
     ghost use Rattle.shapes.specs.Lines.{is_in_stretches};
     ghost use Rattle.shapes.specs.Rays.{IsInWorld, Position, point_at, position_of};
-    ghost use Rattle.shapes.specs.Solids.{solid_faces, solid_side, is_uncapped, IsQuadricLeaf};
+    ghost use Rattle.shapes.specs.Growths.{solid_outward};
+    ghost use Rattle.shapes.specs.Outward.{outward_of, unit_towards};
+    ghost use Rattle.shapes.specs.Solids.{solid_faces, solid_side, is_uncapped};
 
-    /// The solid of a leaf; none exactly where the leaf is a quadric, whose coefficients aren't made yet.
-    pub fn of(leaf: &Leaf) -> Option<Solid>
-        requires { IsLeaf leaf.now }
-        ensures faces { IfSome result (λ solid. (p : Position) → solid_faces solid p ≡ faces_of leaf.now p) }
-        ensures ends { IfSome result (λ solid. solid.uncapped ≡ is_uncapped leaf.now.prim) }
-        ensures none { IsNone result ↔ IsQuadricLeaf leaf.now }
+    /// A solid without open ends.
+    fn closed(body: Body) -> Solid
+        ensures body { result.body ≡ body }
+        ensures ends { result.uncapped ≡ false }
     {
-        let spot = &leaf.spot;
-        match leaf.prim {
-            Primitive::Sphere { r } => Some(Solid {
-                body: Body::Ball(globe(spot, r)),
-                uncapped: false,
-            }),
-            Primitive::Box { size } => Some(Solid {
-                body: Body::Block(cuboid(spot, &size)),
-                uncapped: false,
-            }),
-            Primitive::Plane { normal, d } => Some(Solid {
-                body: Body::Half(half_space(spot, &normal, d)),
-                uncapped: false,
-            }),
-            Primitive::Cylinder { r, h, uncapped } => Some(Solid {
-                body: Body::Pipe(tube(spot, r, h)),
-                uncapped,
-            }),
+        Solid {
+            body,
+            uncapped: false,
+        }
+    }
+
+    /// The solid of a leaf.
+    pub fn of(leaf: &Leaf) -> Solid
+        requires { IsLeaf leaf.now }
+        ensures faces { (p : Position) → solid_faces result p ≡ faces_of leaf.now p }
+        ensures normals { (p : Position) (face : ℕ) → solid_outward result p face ≡ outward_of leaf.now p face }
+        ensures ends { result.uncapped ≡ is_uncapped leaf.now.prim }
+    {
+        let Leaf {
+            prim,
+            xform,
+            spot,
+            ..
+        } = leaf;
+        match prim {
+            Primitive::Sphere { r } => Solid::closed(Body::Ball(globe(spot, *r))),
+            Primitive::Box { size } => Solid::closed(Body::Block(cuboid(spot, size))),
+            Primitive::Plane { normal, d } => Solid::closed(Body::Half(half_space(
+                spot, normal, *d,
+            ))),
+            Primitive::Cylinder { r, h, uncapped } => Solid {
+                body: Body::Pipe(tube(spot, *r, *h)),
+                uncapped: *uncapped,
+            },
             Primitive::Cone {
                 ra,
                 rb,
                 h,
                 axis,
                 uncapped,
-            } => Some(Solid {
-                body: Body::Cone(taper(&leaf.xform, spot, ra, rb, h, &axis)),
-                uncapped,
-            }),
-            Primitive::Quadric { c: _ } => None,
+            } => Solid {
+                body: Body::Cone(taper(xform, spot, *ra, *rb, *h, axis)),
+                uncapped: *uncapped,
+            },
+            Primitive::Quadric { c } => Solid::closed(Body::Bowl(conic(xform, spot, c))),
         }
     }
 
@@ -131,5 +146,34 @@ impl Solid {
             Body::Cone(taper) => taper.side(path),
             Body::Bowl(conic) => conic.stretches(path),
         }
+    }
+
+    /// The direction out of a face at a point of the solid, with the length of 1 unit. A number behind the
+    /// last face's counts as the last.
+    pub fn normal(&self, inner: &Point, face: u8) -> V3
+        requires world { IsInWorld (position_of inner.now) }
+        requires inside { all_hold (solid_faces self.now (position_of inner.now)) ≡ true }
+        ensures { result ≡ unit_towards (solid_outward self.now (position_of inner.now) face) }
+    {
+        match &self.body {
+            Body::Ball(globe) => globe.normal(inner),
+            Body::Block(cuboid) => cuboid.normal(face),
+            Body::Half(half) => half.normal(),
+            Body::Pipe(tube) => tube.normal(inner, face),
+            Body::Cone(taper) => taper.normal(inner, face),
+            Body::Bowl(conic) => conic.normal(inner),
+        }
+    }
+}
+
+impl Volume for Solid {
+    ghost use Rattle.std.specs.Prelude.{true};
+    ghost use Rattle.shapes.specs.Faces.{all_hold};
+    ghost use Rattle.shapes.specs.Solids.{solid_faces};
+
+    ghost holds = { λ solid p. all_hold (solid_faces solid p) ≡ true };
+
+    fn ranges(&self, path: &Path) -> Ranges {
+        Ranges::of_stretches(&self.stretches(path))
     }
 }

@@ -1,7 +1,7 @@
 use Rattle.std.proofs.Common.{arith, ap, subst, unsigned_abs}
 use Rattle.scene_model.specs.Solids.{IsPrim, extent_of}
 use Rattle.shapes.proofs.Rooms.{room_under, direction_within, axis_within}
-use Rattle.shapes.proofs.solid.Solid.of.Goals as goal
+use Rattle.shapes.proofs.body.Solid.of.Goals as goal
 
 pub globe-requires-clause-room : goal.globe-requires-clause-room
 globe-requires-clause-room c = let e = ap extent_of c.in-Sphere.is in room_under c.args.leaf.now c.requires (unsigned_abs c.in-Sphere.r) (omega (arith, e))
@@ -38,3 +38,12 @@ half_space-requires-clause-direction c = direction_within c.in-Plane.normal c.in
 
 pub taper-requires-clause-axis : goal.taper-requires-clause-axis
 taper-requires-clause-axis c = axis_within c.args.leaf.now c.in-Cone.ra c.in-Cone.rb c.in-Cone.h c.in-Cone.axis c.in-Cone.uncapped c.requires c.in-Cone.is
+
+pub conic-requires-clause-each : goal.conic-requires-clause-each
+conic-requires-clause-each c = let k = subst IsPrim c.in-Quadric.is c.requires.prim in k.each
+
+pub returns-in-Quadric-clause-faces : goal.returns-in-Quadric-clause-faces
+returns-in-Quadric-clause-faces c = λ p. rw (c.closed-in-Quadric.ensures.body, c.in-Quadric.is) (c.conic.ensures.faces p)
+
+pub returns-in-Quadric-clause-normals : goal.returns-in-Quadric-clause-normals
+returns-in-Quadric-clause-normals c = λ p face. rw (c.closed-in-Quadric.ensures.body, c.in-Quadric.is) (c.conic.ensures.outward p)
