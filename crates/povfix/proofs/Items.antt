@@ -1,21 +1,18 @@
--- Tokens that stand for themselves, parameters, and items one after another.
-use Rattle.std.proofs.Common.{◌≡◌, ◌<◌, ◌+◌, ℕ, Bool, true, false, List, [], ◌∷◌, ◌++◌, map, length, Option, Some, None, Result, Ok, Err, refl, sym, subst}
+-- Tokens that stand for themselves, and items by their words.
+use Rattle.std.proofs.Common.{◌≡◌, ◌<◌, ◌≤◌, ◌+◌, ℕ, Bool, true, false, List, [], ◌∷◌, length, Option, Some, None, Result, Ok, Err, refl, sym, subst, arith, length-append}
 use Rattle.std.specs.Prelude.{slice_get}
 use Rattle.std.specs.Result.{IfErr, IsErrAnd}
-use Rattle.std.proofs.lemmas.List.{map-append}
 use Rattle.std.proofs.lemmas.Option.{slice_get_within}
-use Rattle.scene_lexer.specs.declared.token.Place.{Place}
 use Rattle.scene_lexer.specs.declared.token.Token.{Token as TextToken}
 use Rattle.scene_expr.specs.declared.value.Settings.{Settings}
-use Rattle.scene_expr.specs.declared.value.Value.{Value}
-use Rattle.scene_expr.specs.Grammar.{Read}
 use Rattle.scene_expr.specs.Heads.{place_at}
-use Rattle.scene_expr.specs.Then.{IsThen}
 use Rattle.povfix.specs.declared.grammar.Mark.{Mark}
-use Rattle.povfix.specs.declared.parser.Refusal.{Refusal}
-use Rattle.povfix.specs.Grammar.{fits_at, fits_token, passed_marks, Behind, IsExpression, IsParameter, IsItem, IsBackground, IsSphere, Piece, Drawn, Shape, painted_of, with_piece}
-use Rattle.povfix.specs.declared.scene.Ball.{Ball}
-use Rattle.fix_math.specs.declared.fix.V3.{V3}
+use Rattle.povfix.specs.declared.refusal.Refusal.{Refusal}
+use Rattle.povfix.specs.declared.scene.Item.{Item}
+use Rattle.povfix.specs.Grammar.{with_item, IsItem, IsBackground, IsSphere}
+use Rattle.povfix.specs.Marks.{fits_at, fits_token, passed_marks}
+use Rattle.povfix.specs.Parameters.{Behind}
+use Rattle.povfix.specs.Scenes.{Scene}
 
 -- what holds of a refusal holds at the exit of a `?`
 pub exit : {T E : Type 0} → (Q : E → Type 0) (y : E) (r : Result T E) → IsErrAnd r (λ x. x ≡ y) → Q y → IfErr r Q
@@ -43,31 +40,21 @@ fits_before_end mark tokens at (Some token) is fit = slice_get_within tokens at 
 pub fits_within : (mark : Mark) (tokens : List TextToken) (at : ℕ) → fits_at mark tokens at ≡ true → at < length tokens
 fits_within mark tokens at fit = fits_before_end mark tokens at (slice_get tokens at) refl fit
 
--- ---- parameters
-
-pub parameter_fault : (A : Type 0) (meaning : Value → Place → Result A Refusal) (tokens : List TextToken) (set : Settings) (at : ℕ) (refusal : Refusal) → IsExpression tokens set at (Err refusal) → IsParameter A meaning tokens set at (Err refusal)
-parameter_fault A meaning tokens set at refusal fault = IsThen.fault refusal fault
-
-pub parameter_refused : (A : Type 0) (meaning : Value → Place → Result A Refusal) (tokens : List TextToken) (set : Settings) (at : ℕ) (read : Read) (refusal : Refusal) → IsExpression tokens set at (Ok read) → meaning read.value (place_at tokens at) ≡ Err refusal → IsParameter A meaning tokens set at (Err refusal)
-parameter_refused A meaning tokens set at read refusal found refused = IsThen.found read (Err refusal) found (rw refused refl)
-
-pub parameter_found : (A : Type 0) (meaning : Value → Place → Result A Refusal) (tokens : List TextToken) (set : Settings) (at : ℕ) (read : Read) (a : A) → IsExpression tokens set at (Ok read) → meaning read.value (place_at tokens at) ≡ Ok a → IsParameter A meaning tokens set at (Ok (record { value = a; next = read.next }))
-parameter_found A meaning tokens set at read a found is = IsThen.found read (Ok (record { value = a; next = read.next })) found (rw is refl)
-
 -- ---- items
 
-pub as_background : (tokens : List TextToken) (set : Settings) (at : ℕ) (background sphere : Bool) (r : Result (Behind Piece) Refusal) → background ≡ true → IsBackground tokens set at r → IsItem tokens set at background sphere r
-as_background tokens set at background sphere r is item = subst (λ b. IsItem tokens set at b sphere r) (sym is) item
+module _ (tokens : List TextToken) (set : Settings) (at : ℕ) (background sphere : Bool) where
+  pub as_background : (r : Result (Behind Item) Refusal) → background ≡ true → IsBackground tokens set at r → IsItem tokens set at background sphere r
+  as_background r is item = subst (λ b. IsItem tokens set at b sphere r) (sym is) item
 
-pub as_sphere : (tokens : List TextToken) (set : Settings) (at : ℕ) (background sphere : Bool) (r : Result (Behind Piece) Refusal) → background ≡ false → sphere ≡ true → IsSphere tokens set at r → IsItem tokens set at background sphere r
-as_sphere tokens set at background sphere r other is item =
-    subst (λ b. IsItem tokens set at b sphere r) (sym other) (subst (λ b. IsItem tokens set at false b r) (sym is) item)
+  pub as_sphere : (r : Result (Behind Item) Refusal) → background ≡ false → sphere ≡ true → IsSphere tokens set at r → IsItem tokens set at background sphere r
+  as_sphere r other is item = subst (λ b. IsItem tokens set at b sphere r) (sym other) (subst (λ b. IsItem tokens set at false b r) (sym is) item)
 
-pub as_neither : (tokens : List TextToken) (set : Settings) (at : ℕ) (background sphere : Bool) → background ≡ false → sphere ≡ false → IsItem tokens set at background sphere (Err (Refusal.OutOfProfile (place_at tokens at)))
-as_neither tokens set at background sphere other another =
-    let refusal : Result (Behind Piece) Refusal = Err (Refusal.OutOfProfile (place_at tokens at)) in
-    subst (λ b. IsItem tokens set at b sphere refusal) (sym other) (subst (λ b. IsItem tokens set at false b refusal) (sym another) refl)
+  pub as_neither : background ≡ false → sphere ≡ false → IsItem tokens set at background sphere (Err (Refusal.OutOfProfile (place_at tokens at)))
+  as_neither other another =
+      let refusal : Result (Behind Item) Refusal = Err (Refusal.OutOfProfile (place_at tokens at)) in
+      subst (λ b. IsItem tokens set at b sphere refusal) (sym other) (subst (λ b. IsItem tokens set at false b refusal) (sym another) refl)
 
--- a further ball is drawn behind the others
-pub drawn_further : (background : V3) (balls more : List Ball) (ball : Ball) → more ≡ balls ++ ball ∷ [] → ◌≡◌ {A = Drawn} (record { background = background; balls = map painted_of more }) (with_piece (Shape (painted_of ball)) (record { background = background; balls = map painted_of balls }))
-drawn_further background balls more ball is = rw (is, map-append painted_of balls (ball ∷ [])) refl
+-- an item draws one ball more at most
+pub few_with : (item : Item) (drawn : Scene) → length (with_item item drawn).balls ≤ length drawn.balls + 1
+few_with (Item.Background colour) drawn = omega arith
+few_with (Item.Ball ball) drawn = omega (arith, length-append drawn.balls (ball ∷ []))

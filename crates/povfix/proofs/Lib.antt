@@ -1,12 +1,12 @@
 pub mod Lists
 pub mod Items
 pub mod OneScene
-pub mod OptionsLemmas
 pub mod Storing
-pub mod Telling
+pub mod Reports
 pub mod Counts
 pub mod Endings
-pub mod PlanSides
+pub mod Plans
+pub mod Courses
 pub mod Verdicts
 pub mod Pictures
 pub mod OneMeaning

@@ -7,15 +7,17 @@ use Rattle.shapes.specs.declared.ray.Ray.{Ray}
 use Rattle.csg_hits.specs.declared.hit.Hit.{Hit}
 use Rattle.csg_hits.specs.Nearest.{IsNearest}
 use Rattle.scene_lexer.specs.declared.token.Token.{Token as TextToken}
-use Rattle.image_out.specs.declared.picture.Sort.TheVariants.{Ppm}
+use Rattle.scene_expr.specs.declared.value.Settings.{Settings}
 use Rattle.image_out.specs.Files.{file_of}
 use Rattle.directive_machine.specs.declared.texts.Text.{Text}
-use Rattle.povfix.specs.Grammar.{Painted, Drawn, IsScene}
+use Rattle.povfix.specs.Grammar.{IsScene}
 use Rattle.povfix.specs.Picture.{pixel_ray_of, pixel_shows, IsBallHit, Shows, IsPicture}
-use Rattle.povfix.specs.Samples.{pixel_bytes}
-use Rattle.povfix.specs.Conversions.{settings_of}
-use Rattle.povfix.specs.Frames.{IsMeant, IsDrawn, IsImage, IsMeaning}
+use Rattle.povfix.specs.Scenes.{Scene, Ball}
+use Rattle.povfix.specs.Samples.{pixel_bytes, pixel_length}
+use Rattle.povfix.specs.Frames.{Frame, IsMeant, IsDrawn, IsImage, IsMeaning}
 use Rattle.povfix.proofs.OneScene.{one_scene}
+use Rattle.povfix.proofs.Pictures.{times_next}
+use Rattle.std.proofs.Math.Nat.{mul-suc}
 
 -- ---- a ray shows one colour
 
@@ -33,57 +35,63 @@ one_nearest is_hit a b na nb =
     same_hit a.t b.t a.object b.object same object
 
 -- what is there has one colour
-one_painted : (found : Option Painted) (a b : V3) → IsSomeAnd found (λ ball. a ≡ ball.colour) → IsSomeAnd found (λ ball. b ≡ ball.colour) → a ≡ b
-one_painted None a b p q = absurd p
-one_painted (Some ball) a b p q = p ∙ sym q
+one_ball : (found : Option Ball) (a b : V3) → IsSomeAnd found (λ ball. a ≡ ball.colour) → IsSomeAnd found (λ ball. b ≡ ball.colour) → a ≡ b
+one_ball None a b p q = absurd p
+one_ball (Some ball) a b p q = p ∙ sym q
 
-one_colour : (drawn : Drawn) (ray : Ray) (a b : V3) → Shows drawn ray a → Shows drawn ray b → a ≡ b
+one_colour : (drawn : Scene) (ray : Ray) (a b : V3) → Shows drawn ray a → Shows drawn ray b → a ≡ b
 one_colour drawn ray a b (inl p) (inl q) =
     let same : q.0 ≡ p.0 = one_nearest (IsBallHit drawn.balls ray) q.0 p.0 q.1 p.1 in
-    one_painted (slice_get drawn.balls p.0.object) a b p.2 (subst (λ hit. IsSomeAnd (slice_get drawn.balls hit.object) (λ ball. b ≡ ball.colour)) same q.2)
+    one_ball (slice_get drawn.balls p.0.object) a b p.2 (subst (λ hit. IsSomeAnd (slice_get drawn.balls hit.object) (λ ball. b ≡ ball.colour)) same q.2)
 one_colour drawn ray a b (inl p) (inr q) = absurd (q.0 p.0.t p.0.object p.1.found)
 one_colour drawn ray a b (inr p) (inl q) = absurd (p.0 q.0.t q.0.object q.1.found)
 one_colour drawn ray a b (inr p) (inr q) = p.1 ∙ sym q.1
 
 -- ---- a scene has one picture
 
--- lists that agree in each three bytes are one
-same_threes : (count : ℕ) (a b : List ℕ) → length a ≡ 3 * count → length b ≡ 3 * count → ((k : ℕ) → k < count → take 3 (drop (3 * k) a) ≡ take 3 (drop (3 * k) b)) → a ≡ b
-same_threes zero a b size_a size_b same = nil_from_length a size_a ∙ sym (nil_from_length b size_b)
-same_threes (suc count) a b size_a size_b same =
-    let front : take 3 a ≡ take 3 b = same 0 (omega arith) in
-    let rest : drop 3 a ≡ drop 3 b = same_threes count (drop 3 a) (drop 3 b) (omega (arith, length-drop 3 a)) (omega (arith, length-drop 3 b)) (λ k lt. further k (same (k + 1) (omega arith))) in
-    sym (take-append-drop 3 a) ∙ ap (λ xs. xs ++ drop 3 a) front ∙ ap (λ xs. take 3 b ++ xs) rest ∙ take-append-drop 3 b
+-- lists that agree in each block of this size are one
+same_blocks : (size count : ℕ) (a b : List ℕ) → length a ≡ size * count → length b ≡ size * count → ((k : ℕ) → k < count → take size (drop (size * k) a) ≡ take size (drop (size * k) b)) → a ≡ b
+same_blocks size zero a b size_a size_b same =
+    let none : size * 0 ≡ 0 = omega arith in
+    nil_from_length a (size_a ∙ none) ∙ sym (nil_from_length b (size_b ∙ none))
+same_blocks size (suc count) a b size_a size_b same =
+    let start : size * 0 ≡ 0 = omega arith in
+    let front : take size a ≡ take size b = subst (λ n. take size (drop n a) ≡ take size (drop n b)) start (same 0 (omega arith)) in
+    let rest : drop size a ≡ drop size b = same_blocks size count (drop size a) (drop size b) (left a size_a) (left b size_b) (λ k lt. further k (same (k + 1) (omega arith))) in
+    sym (take-append-drop size a) ∙ ap (λ xs. xs ++ drop size a) front ∙ ap (λ xs. take size b ++ xs) rest ∙ take-append-drop size b
   where
-    further : (k : ℕ) → take 3 (drop (3 * (k + 1)) a) ≡ take 3 (drop (3 * (k + 1)) b) → take 3 (drop (3 * k) (drop 3 a)) ≡ take 3 (drop (3 * k) (drop 3 b))
-    further k here = let place : 3 * (k + 1) ≡ 3 + 3 * k = omega arith in simp drop-drop (rw place at here)
+    left : (c : List ℕ) → length c ≡ size * suc count → length (drop size c) ≡ size * count
+    left c size_c = omega (arith, length-drop size c, size_c, mul-suc size count)
 
-one_picture : (scene : Drawn) (width height : ℕ) (a b : List ℕ) → IsPicture (pixel_shows (Shows scene) width height) width height 8 a → IsPicture (pixel_shows (Shows scene) width height) width height 8 b → a ≡ b
-one_picture scene width height a b p q = same_threes (width * height) a b p.size q.size (λ k lt.
+    further : (k : ℕ) → take size (drop (size * (k + 1)) a) ≡ take size (drop (size * (k + 1)) b) → take size (drop (size * k) (drop size a)) ≡ take size (drop (size * k) (drop size b))
+    further k here = let place : size * (k + 1) ≡ size + size * k = omega (arith, times_next size k) in simp drop-drop (rw place at here)
+
+one_picture : (scene : Scene) (width height bits : ℕ) (a b : List ℕ) → IsPicture (pixel_shows (Shows scene) width height) width height bits a → IsPicture (pixel_shows (Shows scene) width height) width height bits b → a ≡ b
+one_picture scene width height bits a b p q = same_blocks (pixel_length bits) (width * height) a b p.size q.size (λ k lt.
     let left = p.pixels k lt in
     let right = q.pixels k lt in
     let same : left.0 ≡ right.0 = one_colour scene (pixel_ray_of width height (k % width) (k / width)) left.0 right.0 left.1 right.1 in
-    left.2 ∙ ap (pixel_bytes 8) same ∙ sym right.2)
+    left.2 ∙ ap (pixel_bytes bits) same ∙ sym right.2)
 
-one_drawn : (width height : ℕ) (scene : Drawn) (a b : List ℕ) → IsDrawn width height scene a → IsDrawn width height scene b → a ≡ b
-one_drawn width height scene a b p q =
-    let same : p.picture ≡ q.picture = one_picture scene width height p.picture q.picture p.shown q.shown in
-    p.filed ∙ ap (file_of Ppm width height 8) same ∙ sym q.filed
+one_drawn : (frame : Frame) (scene : Scene) (a b : List ℕ) → IsDrawn frame scene a → IsDrawn frame scene b → a ≡ b
+one_drawn frame scene a b p q =
+    let same : p.picture ≡ q.picture = one_picture scene frame.width frame.height frame.bits p.picture q.picture p.shown q.shown in
+    p.filed ∙ ap (file_of frame.sort frame.width frame.height frame.bits) same ∙ sym q.filed
 
 -- ---- a text has one scene, and so one file
 
-one_meant : (width height : ℕ) (text : List ℕ) (a b : Drawn) → IsMeant width height text a → IsMeant width height text b → a ≡ b
-one_meant width height text a b p q =
+one_meant : (set : Settings) (text : List ℕ) (a b : Scene) → IsMeant set text a → IsMeant set text b → a ≡ b
+one_meant set text a b p q =
     let same : q.tokens ≡ p.tokens = cc in
-    let scene = subst (λ (tokens : List TextToken). IsScene tokens (settings_of width height) (Ok b)) same q.parsed in
-    cc (one_scene p.tokens (settings_of width height) (Ok a) (Ok b) p.parsed scene)
+    let scene = subst (λ (tokens : List TextToken). IsScene tokens set (Ok b)) same q.parsed in
+    cc (one_scene p.tokens set (Ok a) (Ok b) p.parsed scene)
 
-one_image : (name : List ℕ) (width height : ℕ) (text a b : List ℕ) → IsImage name width height text a → IsImage name width height text b → a ≡ b
-one_image name width height text a b p q =
-    let same : q.scene ≡ p.scene = one_meant width height text q.scene p.scene q.meant p.meant in
-    one_drawn width height p.scene a b p.drawn (subst (λ scene. IsDrawn width height scene b) same q.drawn)
+one_image : (frame : Frame) (text a b : List ℕ) → IsImage frame text a → IsImage frame text b → a ≡ b
+one_image frame text a b p q =
+    let same : q.scene ≡ p.scene = one_meant frame.settings text q.scene p.scene q.meant p.meant in
+    one_drawn frame p.scene a b p.drawn (subst (λ scene. IsDrawn frame scene b) same q.drawn)
 
-pub one_meaning : (name : List ℕ) (width height : ℕ) (texts : List Text) (a b : List ℕ) → IsMeaning name width height texts a → IsMeaning name width height texts b → a ≡ b
-one_meaning name width height texts a b p q =
+pub one_meaning : (frame : Frame) (texts : List Text) (a b : List ℕ) → IsMeaning frame texts a → IsMeaning frame texts b → a ≡ b
+one_meaning frame texts a b p q =
     let same : q.0 ≡ p.0 = cc (p.1, q.1) in
-    one_image name width height p.0 a b p.2 (subst (λ text. IsImage name width height text b) same q.2)
+    one_image frame p.0 a b p.2 (subst (λ text. IsImage frame text b) same q.2)

@@ -8,8 +8,11 @@ use Rattle.scene_expr.specs.declared.value.Settings.{Settings}
 use Rattle.scene_expr.specs.declared.value.Value.{Value}
 use Rattle.scene_expr.specs.OneValue.{one_value}
 use Rattle.scene_expr.specs.Then.{IsOne, one_is, one_then}
-use Rattle.povfix.specs.declared.parser.Refusal.{Refusal}
-use Rattle.povfix.specs.Grammar.{refusal_of, point_of, radius_of, background_of, pigment_of, Behind, Piece, Drawn, with_piece, nothing, IsExpression, IsParameter, IsBackground, IsSphere, IsItem, IsItemAt, IsItems, IsScene}
+use Rattle.povfix.specs.declared.refusal.Refusal.{Refusal}
+use Rattle.povfix.specs.declared.scene.Item.{Item}
+use Rattle.povfix.specs.Grammar.{with_item, IsBackground, IsSphere, IsItem, IsItemAt, IsItems, IsScene}
+use Rattle.povfix.specs.Parameters.{refusal_of, point_of, radius_of, background_of, pigment_of, Behind, IsExpression, IsParameter}
+use Rattle.povfix.specs.Scenes.{nothing, Scene}
 
 module _ (tokens : List TextToken) (set : Settings) where
   one_expression : (at : ℕ) → IsOne (IsExpression tokens set at)
@@ -39,7 +42,7 @@ module _ (tokens : List TextToken) (set : Settings) where
   one_item_at : (at : ℕ) → IsOne (IsItemAt tokens set at)
   one_item_at at r s p q = one_item at _ _ r s p q
 
-  one_items : (drawn : Drawn) (at : ℕ) → IsOne (IsItems tokens set drawn at)
+  one_items : (drawn : Scene) (at : ℕ) → IsOne (IsItems tokens set drawn at)
   one_items drawn at r s (IsItems.ends _ _ end) (IsItems.ends _ _ end') = refl
   one_items drawn at r s (IsItems.ends _ _ end) (IsItems.fault _ _ y more q) = absurd (omega (arith, end, more))
   one_items drawn at r s (IsItems.ends _ _ end) (IsItems.further _ _ b t more q rest) = absurd (omega (arith, end, more))
@@ -50,7 +53,7 @@ module _ (tokens : List TextToken) (set : Settings) where
   one_items drawn at r s (IsItems.further _ _ a t more p rest) (IsItems.fault _ _ y more' q) = absurd (cc (one_item_at at (Ok a) (Err y) p q))
   one_items drawn at r s (IsItems.further _ _ a t more p rest) (IsItems.further _ _ b u more' q rest') =
       let same : b ≡ a = cc (one_item_at at (Ok a) (Ok b) p q) in
-      one_items (with_piece a.value drawn) a.next r s rest (subst (λ (item : Behind Piece). IsItems tokens set (with_piece item.value drawn) item.next s) same rest')
+      one_items (with_item a.value drawn) a.next r s rest (subst (λ (item : Behind Item). IsItems tokens set (with_item item.value drawn) item.next s) same rest')
 
   pub one_scene : IsOne (IsScene tokens set)
   one_scene r s p q = one_items nothing 0 r s p q

@@ -1,14 +1,13 @@
 -- What one layer answers, in the words of the next.
-use Rattle.std.specs.Prelude.{ℕ, pos, Result, Ok, Err, List, []}
+use Rattle.std.specs.Prelude.{ℕ, Result, Ok, Err, List, []}
 use Rattle.scene_lexer.specs.declared.token.LexFault.{LexFault}
 use Rattle.scene_lexer.specs.declared.token.LexFault.TheVariants.{BadByte, OpenComment, OpenString, LongName, NumberRange}
-use Rattle.scene_expr.specs.declared.value.Settings.{Settings}
 use Rattle.shelf.specs.declared.disk.HoldFail.{HoldFail}
-use Rattle.povfix.specs.declared.options.OptionFault.{OptionFault as OptionRefusal}
-use Rattle.povfix.specs.declared.options.Plan.{Plan}
+use Rattle.options.specs.declared.fault.OptionFault.{OptionFault as OptionRefusal}
+use Rattle.options.specs.declared.plan.Plan.{Plan}
 use Rattle.povfix.specs.declared.outcome.Fault.{Fault}
 use Rattle.povfix.specs.declared.outcome.Fault.TheVariants.{Done, OptionFault, SceneFault, Limit, Absent, TextFault, ShelfFault, NoMemory}
-use Rattle.povfix.specs.declared.parser.Refusal.{Refusal}
+use Rattle.povfix.specs.declared.refusal.Refusal.{Refusal}
 
 -- a refusal of the options, by its kind
 abbrev pub option_fault : OptionRefusal → Fault
@@ -42,19 +41,6 @@ parse_fault Refusal.NoMemory = NoMemory
 abbrev pub hold_fault : HoldFail → Fault
 hold_fault HoldFail.Failed = ShelfFault
 hold_fault HoldFail.NoMemory = NoMemory
-
--- a single frame tells its expressions the size of its picture; its clock is 0, and it is the first and the last
-abbrev pub settings_of : ℕ → ℕ → Settings
-settings_of width height = record {
-  clock = pos 0;
-  initial_clock = pos 0;
-  final_clock = pos 65536;
-  frame_number = 1;
-  initial_frame = 1;
-  final_frame = 1;
-  image_width = width;
-  image_height = height;
-}
 
 -- the name of the scene text that a fault's line tells
 abbrev pub input_of : Result Plan OptionRefusal → List ℕ

@@ -1,67 +1,90 @@
 -- What a frame asks for and means, and what the frames of a run leave in the storage.
-use Rattle.std.specs.Prelude.{ℕ, ◌+◌, ◌-◌, ◌<◌, ◌≤◌, ◌≡◌, ◌≢◌, List, [], ◌∷◌, length, Some, Result, Ok, Err}
+use Rattle.std.specs.Prelude.{ℕ, zero, suc, ◌+◌, ◌-◌, ◌==◌, ◌≤◌, ◌≡◌, ◌≢◌, if◌then◌else◌, List, [], ◌∷◌, length, Option, Some, Result, Ok, Err}
 use Rattle.shelf.specs.Disk.{Contents}
-use Rattle.image_out.specs.declared.picture.Sort.TheVariants.{Ppm}
+use Rattle.image_out.specs.declared.picture.Sort.{Sort}
 use Rattle.image_out.specs.Files.{file_of}
 use Rattle.scene_lexer.specs.declared.token.Token.{Token as TextToken}
 use Rattle.scene_lexer.specs.Tokens.{tokens_of}
-use Rattle.povfix.specs.declared.options.Plan.{Plan}
-use Rattle.povfix.specs.declared.options.OptionFault.{OptionFault as Refusal}
+use Rattle.scene_expr.specs.declared.value.Settings.{Settings}
+use Rattle.directive_machine.specs.declared.texts.Text.{Text}
+use Rattle.directive_machine.specs.Texts.{text_of, IsWithinLimit}
+use Rattle.options.specs.declared.plan.Plan.{Plan}
+use Rattle.options.specs.declared.fault.OptionFault.{OptionFault as Refusal}
+use Rattle.options.specs.Frames.{picture_name, settings_of}
+use Rattle.options.specs.Generated.{generated_text}
 use Rattle.povfix.specs.declared.outcome.Fault.{Fault}
 use Rattle.povfix.specs.declared.outcome.Fault.TheVariants.{Done, ShelfFault}
-use Rattle.directive_machine.specs.declared.texts.Text.{Text}
-use Rattle.povfix.specs.Conversions.{settings_of}
-use Rattle.povfix.specs.Grammar.{Drawn, IsScene}
+use Rattle.povfix.specs.Grammar.{IsScene}
 use Rattle.povfix.specs.Picture.{IsPicture, Shows, pixel_shows}
-use Rattle.directive_machine.specs.Texts.{text_of, IsWithinLimit}
+use Rattle.povfix.specs.Scenes.{Scene}
 
 -- ---- one frame
 
--- the names of its scene text and of its picture file, and the picture's sides
+-- the name of its scene text, the balls of a generated one, the name of its picture file, the picture's sides, its sort and
+-- the bits of a sample, and what it tells its expressions
 pub record Frame : Type 0 where
   pub input : List ℕ
+  pub generate : ℕ
   pub output : List ℕ
   pub width : ℕ
   pub height : ℕ
+  pub sort : Sort
+  pub bits : ℕ
+  pub settings : Settings
 
--- pictures have sides from 1 to 8192
-pub record IsSides (width height : ℕ) : Type 0 where
-  pub width_some : 0 < width
-  pub width_most : width ≤ 8192
-  pub height_some : 0 < height
-  pub height_most : height ≤ 8192
+-- the scene text: the one of this name, or one of so many balls that is generated in its place
+abbrev pub scene_text : ℕ → List ℕ → List Text → Option (List ℕ)
+scene_text balls name texts = if balls == 0 then text_of texts name else Some (generated_text balls)
 
--- the text means this scene in a picture of these sides
-pub record IsMeant (width height : ℕ) (text : List ℕ) (scene : Drawn) : Type 0 where
+-- the text means this scene
+pub record IsMeant (set : Settings) (text : List ℕ) (scene : Scene) : Type 0 where
   pub tokens : List TextToken
   pub lexed : tokens_of 0 text ≡ Ok tokens
-  pub parsed : IsScene tokens (settings_of width height) (Ok scene)
+  pub parsed : IsScene tokens set (Ok scene)
 
 -- the file of a scene's picture
-pub record IsDrawn (width height : ℕ) (scene : Drawn) (file : List ℕ) : Type 0 where
+pub record IsDrawn (frame : Frame) (scene : Scene) (file : List ℕ) : Type 0 where
   pub picture : List ℕ
-  pub shown : IsPicture (pixel_shows (Shows scene) width height) width height 8 picture
-  pub filed : file ≡ file_of Ppm width height 8 picture
+  pub shown : IsPicture (pixel_shows (Shows scene) frame.width frame.height) frame.width frame.height frame.bits picture
+  pub filed : file ≡ file_of frame.sort frame.width frame.height frame.bits picture
 
--- the picture file of a text of this name
-pub record IsImage (name : List ℕ) (width height : ℕ) (text file : List ℕ) : Type 0 where
-  pub short : IsWithinLimit name text
-  pub scene : Drawn
-  pub meant : IsMeant width height text scene
-  pub drawn : IsDrawn width height scene file
+-- the picture file of a frame with this text
+pub record IsImage (frame : Frame) (text file : List ℕ) : Type 0 where
+  pub short : IsWithinLimit frame.input text
+  pub scene : Scene
+  pub meant : IsMeant frame.settings text scene
+  pub drawn : IsDrawn frame scene file
 
--- the picture file of the text that is held under this name
-abbrev pub IsMeaning : List ℕ → ℕ → ℕ → List Text → List ℕ → Type 0
-IsMeaning name width height texts file = (text : List ℕ) × (text_of texts name ≡ Some text) × IsImage name width height text file
+-- the picture file of a frame over these texts
+abbrev pub IsMeaning : Frame → List Text → List ℕ → Type 0
+IsMeaning frame texts file = (text : List ℕ) × (scene_text frame.generate frame.input texts ≡ Some text) × IsImage frame text file
 
 -- ---- the frames of a run
 
-abbrev pub frame_of : Plan → Frame
-frame_of plan = record { input = plan.input; output = plan.output; width = plan.width; height = plan.height }
+-- the frame of this number
+abbrev pub frame_of : Plan → ℕ → Frame
+frame_of plan number = record {
+  input = plan.input;
+  generate = plan.generate;
+  output = picture_name plan number;
+  width = plan.width;
+  height = plan.height;
+  sort = plan.sort;
+  bits = plan.bits;
+  settings = settings_of plan number;
+}
 
--- the frames that the words ask for, in their order: there is one
+-- so many frames, from this number on
+unfoldable pub frames_from : Plan → ℕ → ℕ → List Frame
+frames_from plan number zero = []
+frames_from plan number (suc count) = frame_of plan number ∷ frames_from plan (number + 1) count
+
+abbrev pub frames_of : Plan → List Frame
+frames_of plan = frames_from plan plan.from (plan.to - plan.from + 1)
+
+-- the frames that are asked for, in their order
 abbrev pub frames_in : Result Plan Refusal → List Frame
-frames_in (Ok plan) = frame_of plan ∷ []
+frames_in (Ok plan) = frames_of plan
 frames_in (Err refusal) = []
 
 -- the count of frames that are finished: all where all is done, else fewer where there are any
@@ -73,7 +96,7 @@ IsFinished frames fault count = count ≤ length frames - 1
 
 -- under the name of a frame's picture file nothing is read but the bytes of its meaning
 abbrev pub IsStored : Frame → List Text → Contents → Type 0
-IsStored frame texts holds = (c : List ℕ) → holds frame.output c → IsMeaning frame.input frame.width frame.height texts c
+IsStored frame texts holds = (c : List ℕ) → holds frame.output c → IsMeaning frame texts c
 
 -- the picture files of these frames are stored
 abbrev pub AreStored : List Frame → List Text → Contents → Type 0

@@ -1,10 +1,13 @@
-pub mod Options
 pub mod Ranges
+pub mod Scenes
+pub mod Marks
+pub mod Parameters
 pub mod Grammar
 pub mod Samples
 pub mod Picture
 pub mod Conversions
 pub mod Lines
 pub mod Frames
+pub mod Asked
 pub mod Verdict
 pub mod Steps

@@ -3,8 +3,8 @@ use Rattle.std.specs.Prelude.{ℕ, ◌≡◌, ◌⊎◌, List, [], ◌∷◌, �
 use Rattle.std.specs.Fmt.{decimal}
 use Rattle.shelf.specs.Causes.{Rose}
 use Rattle.shelf.specs.Stream.{with_bytes, GrewByFront}
-use Rattle.povfix.specs.declared.options.Where.{Where}
-use Rattle.povfix.specs.declared.options.Where.TheVariants.{Word, Line}
+use Rattle.options.specs.declared.fault.Where.{Where}
+use Rattle.options.specs.declared.fault.Where.TheVariants.{Word, Line}
 use Rattle.povfix.specs.declared.outcome.Fault.{Fault}
 use Rattle.povfix.specs.declared.outcome.Fault.TheVariants.{Done, OptionFault, SceneFault, Limit, Absent, TextFault, ShelfFault, NoMemory}
 
@@ -51,8 +51,8 @@ IsPlaced (Limit which place) = Unit {0}
 IsPlaced (Absent name) = Unit {0}
 IsPlaced _ = ⊥
 
--- a fault was told by its line, or there was no memory for the line, and that was told
-abbrev pub IsTold : Option (List ℕ) → Option (List ℕ) → ℕ → ℕ → List ℕ → Fault → Fault → Type 0
-IsTold before now faults_before faults_now line fault told =
-    ((told ≡ fault) × Says before now faults_before faults_now line)
-    ⊎ ((told ≡ NoMemory) × Says before now faults_before faults_now (codes "no memory\n"))
+-- a fault was reported by its line, or there was no memory for the line, and that was reported
+abbrev pub IsReported : Option (List ℕ) → Option (List ℕ) → ℕ → ℕ → List ℕ → Fault → Fault → Type 0
+IsReported before now faults_before faults_now line fault reported =
+    ((reported ≡ fault) × Says before now faults_before faults_now line)
+    ⊎ ((reported ≡ NoMemory) × Says before now faults_before faults_now (codes "no memory\n"))

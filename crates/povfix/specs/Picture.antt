@@ -5,11 +5,9 @@ use Rattle.fix_math.specs.declared.fix.V3.{V3}
 use Rattle.fix_math.specs.Numbers.{rnd}
 use Rattle.fix_math.specs.Directions.{unit_of}
 use Rattle.shapes.specs.declared.ray.Ray.{Ray}
-use Rattle.shapes.specs.Rays.{Position}
-use Rattle.shapes.specs.Spheres.{IsInSphere}
 use Rattle.csg_hits.specs.declared.hit.Hit.{Hit}
 use Rattle.csg_hits.specs.Nearest.{IsHit, IsNearest}
-use Rattle.povfix.specs.Grammar.{Painted, Drawn}
+use Rattle.povfix.specs.Scenes.{Scene, Ball, IsInBall}
 use Rattle.povfix.specs.Samples.{pixel_length, pixel_bytes}
 
 -- the middle of a pixel along an axis of this extent, from the middle of the picture: twice its place counts in halves
@@ -29,15 +27,12 @@ pixel_ray_of width height column row = record {
   dir = unit_of (record { x = right_offset width column; y = up_offset height row; z = pos 65536 });
 }
 
-abbrev pub holds_at : Painted → Position → Type 0
-holds_at ball = IsInSphere ball.centre ball.radius
-
 -- an object is hit at a number of the ray
-abbrev pub IsBallHit : List Painted → Ray → ℕ → ℕ → Type 0
-IsBallHit balls ray = IsHit holds_at balls ray 63
+abbrev pub IsBallHit : List Ball → Ray → ℕ → ℕ → Type 0
+IsBallHit balls ray = IsHit IsInBall balls ray 63
 
 -- a ray shows the colour of the first object that it hits, or the background
-abbrev pub Shows : Drawn → Ray → V3 → Type 0
+abbrev pub Shows : Scene → Ray → V3 → Type 0
 Shows drawn ray colour =
     ((hit : Hit) × IsNearest (IsBallHit drawn.balls ray) hit × IsSomeAnd (slice_get drawn.balls hit.object) (λ ball. colour ≡ ball.colour))
     ⊎ (((t object : ℕ) → ¬ IsBallHit drawn.balls ray t object) × (colour ≡ drawn.background))

@@ -1,15 +1,11 @@
 // What one layer answers, in the words of the next.
 ghost use Rattle.std.specs.Prelude.{◌≡◌};
-ghost use Rattle.scene_expr.specs.Values.{AreWhole};
 ghost use Rattle.povfix.specs.declared.outcome.Fault.TheVariants.{NoMemory, ShelfFault};
-ghost use Rattle.povfix.specs.Conversions.{hold_fault, lex_fault, option_fault, parse_fault, settings_of, status_of};
-ghost use Rattle.povfix.specs.Frames.{IsSides};
+ghost use Rattle.povfix.specs.Conversions.{hold_fault, lex_fault, option_fault, parse_fault, status_of};
 
-use crate::options::OptionFault;
 use crate::outcome::Fault;
-use crate::parser::Refusal;
-use fix_math::Fix;
-use scene_expr::Settings;
+use crate::refusal::Refusal;
+use options::OptionFault;
 use scene_lexer::LexFault;
 use shelf::HoldFail;
 use std::alloc::AllocError;
@@ -92,23 +88,5 @@ pub fn status(fault: &Fault) -> u8
         Fault::TextFault => 5,
         Fault::ShelfFault => 7,
         Fault::NoMemory => 9,
-    }
-}
-
-/// What a single frame tells its expressions.
-pub fn settings_of(width: u32, height: u32) -> Settings
-    requires { IsSides width height }
-    ensures value { result ≡ settings_of width height }
-    ensures whole { AreWhole result }
-{
-    Settings {
-        clock: Fix(0),
-        initial_clock: Fix(0),
-        final_clock: Fix(65536),
-        frame_number: 1,
-        initial_frame: 1,
-        final_frame: 1,
-        image_width: width,
-        image_height: height,
     }
 }

@@ -1,12 +1,11 @@
 // The rays of the pixels, and the picture that they show.
 ghost use Rattle.std.specs.Prelude.{◌≡◌, ◌≤◌, ◌<◌, ◌^◌, ◌*◌, ◌+◌, ◌-ℤ◌, pos, unsigned_abs, length, IfOk};
+ghost use Rattle.image_out.specs.Sizes.{IsDepth};
 ghost use Rattle.shapes.specs.Rays.{IsRayDirection};
-ghost use Rattle.povfix.specs.Ranges.{IsColour};
-ghost use Rattle.povfix.specs.Grammar.{drawn_of};
 ghost use Rattle.povfix.specs.Picture.{offset_of, pixel_ray_of, pixel_shows, Shows, IsPicture};
 
 use crate::sample::append_pixel;
-use crate::scene::Scene;
+use crate::scene::{Colour, Scene};
 use csg_hits::nearest;
 use fix_math::{Fix, V3, rounded, unit};
 use shapes::Ray;
@@ -66,31 +65,47 @@ fn pixel_ray(width: u32, height: u32, column: u32, row: u32) -> Ray
 }
 
 /// The colour that a ray shows.
-fn colour_of(scene: &Scene, ray: &Ray) -> V3
+fn colour_of<'a>(scene: &'a Scene, ray: &Ray) -> &'a Colour
     requires direction { IsRayDirection ray.now.dir }
-    requires few { length scene.now.balls.items < 2 ^ 32 }
-    ensures shown { Shows (drawn_of scene.now) ray.now result }
-    ensures valid { IsColour result }
+    requires few { length scene.now.balls < 2 ^ 32 }
+    ensures { Shows scene.now ray.now result.now }
 {
-    match nearest(scene.balls.as_slice(), ray, NEAR) {
-        Some(hit) => scene.balls[hit.object as usize].colour,
-        None => scene.background,
+    let balls = scene.balls();
+    match nearest(balls, ray, NEAR) {
+        Some(hit) => balls[hit.object as usize].colour(),
+        None => scene.background(),
     }
 }
 
-/// The picture of a scene: three bytes for each pixel, by rows from the top.
-pub fn draw(alloc: Global, scene: &Scene, width: u32, height: u32) -> Result<Vec<u8>, AllocError>
+/// The picture of a scene: three samples for each pixel, by rows from the top.
+pub fn draw(
+    alloc: Global,
+    scene: &Scene,
+    width: u32,
+    height: u32,
+    bits: u32,
+) -> Result<Vec<u8>, AllocError>
     requires width_some { 0 < width }
     requires width_most { width ≤ 8192 }
     requires height_most { height ≤ 8192 }
-    requires few { length scene.now.balls.items < 2 ^ 32 }
-    ensures { IfOk result (λ bytes. IsPicture (pixel_shows (Shows (drawn_of scene.now)) width height) width height 8 bytes.items) }
+    requires depth { IsDepth bits }
+    requires few { length scene.now.balls < 2 ^ 32 }
+    ensures { IfOk result (λ bytes. IsPicture (pixel_shows (Shows scene.now) width height) width height bits bytes.items) }
 {
-    let mut picture = Vec::with_capacity(alloc, 3 * width as usize * height as usize)?;
+    let mut picture = Vec::with_capacity(alloc, picture_room(width, height, bits))?;
     for pixel in 0..width * height {
         let ray = pixel_ray(width, height, pixel % width, pixel / width);
         let colour = colour_of(scene, &ray);
-        append_pixel(8, &colour, &mut picture)?;
+        append_pixel(bits, colour.channels(), &mut picture)?;
     }
     Ok(picture)
+}
+
+/// How many bytes a picture has.
+fn picture_room(width: u32, height: u32, bits: u32) -> usize
+    requires width_most { width ≤ 8192 }
+    requires height_most { height ≤ 8192 }
+{
+    let samples = 3 * width as usize * height as usize;
+    if bits == 8 { samples } else { 2 * samples }
 }

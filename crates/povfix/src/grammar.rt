@@ -1,6 +1,6 @@
 // The tokens of scenes that stand for themselves.
 ghost use Rattle.std.specs.Prelude.{◌≡◌};
-ghost use Rattle.povfix.specs.Grammar.{spelling_of, fits, background_front, background_end, sphere_front, pigment_front, sphere_end};
+ghost use Rattle.povfix.specs.Marks.{spelling_of, fits, marks_of};
 
 use scene_lexer::Kind;
 
@@ -74,32 +74,26 @@ static SPHERE_END: [Mark; 9] = [
     Mark::Sign(b'}'),
 ];
 
-pub fn background_front() -> &'static [Mark]
-    ensures { result.now ≡ background_front }
-{
-    &BACKGROUND_FRONT
+/// A row of tokens that stand for themselves.
+#[derive(Clone, Copy)]
+pub enum Row {
+    BackgroundFront,
+    BackgroundEnd,
+    SphereFront,
+    PigmentFront,
+    SphereEnd,
 }
 
-pub fn background_end() -> &'static [Mark]
-    ensures { result.now ≡ background_end }
-{
-    &BACKGROUND_END
-}
-
-pub fn sphere_front() -> &'static [Mark]
-    ensures { result.now ≡ sphere_front }
-{
-    &SPHERE_FRONT
-}
-
-pub fn pigment_front() -> &'static [Mark]
-    ensures { result.now ≡ pigment_front }
-{
-    &PIGMENT_FRONT
-}
-
-pub fn sphere_end() -> &'static [Mark]
-    ensures { result.now ≡ sphere_end }
-{
-    &SPHERE_END
+impl Row {
+    pub fn marks(self) -> &'static [Mark]
+        ensures { result.now ≡ marks_of self }
+    {
+        match self {
+            Row::BackgroundFront => &BACKGROUND_FRONT,
+            Row::BackgroundEnd => &BACKGROUND_END,
+            Row::SphereFront => &SPHERE_FRONT,
+            Row::PigmentFront => &PIGMENT_FRONT,
+            Row::SphereEnd => &SPHERE_END,
+        }
+    }
 }

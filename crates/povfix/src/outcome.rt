@@ -1,6 +1,6 @@
 // How a run ends.
-use crate::options::Where;
 use fix_math::Str;
+use options::Where;
 use scene_lexer::Place;
 
 /// What a run comes to, one variant for each status.

@@ -1,10 +1,10 @@
 // What a run says of how it ends.
 ghost use Rattle.std.specs.Prelude.{◌≡◌, ◌⊎◌, ◌++◌, ℕ, List, IfOk, OnOk};
 ghost use Rattle.std.specs.Fmt.{decimal};
-ghost use Rattle.povfix.specs.Lines.{absent_line, limit_line, line_of, option_line, place_end, scene_line, where_line, IsPlaced, IsTold, Says};
+ghost use Rattle.povfix.specs.Lines.{absent_line, limit_line, line_of, option_line, place_end, scene_line, where_line, IsPlaced, IsReported, Says};
 
-use crate::options::Where;
 use crate::outcome::Fault;
+use options::Where;
 use shelf::Sink;
 use std::alloc::{AllocError, Global};
 
@@ -108,7 +108,7 @@ fn say<K: Sink>(messages: &mut K, line: &[u8])
 
 /// Writes the line of a fault, or that there is no memory for it, which takes the fault's place.
 fn say_placed<K: Sink>(messages: &mut K, line: Result<Vec<u8>, AllocError>, fault: Fault) -> Fault
-    ensures told { (bytes : List ℕ) → IfOk line (λ written. written.items ≡ bytes) → IsTold (K.written messages.old) (K.written messages.new) (K.faults messages.old) (K.faults messages.new) bytes fault result }
+    ensures reported { (bytes : List ℕ) → IfOk line (λ written. written.items ≡ bytes) → IsReported (K.written messages.old) (K.written messages.new) (K.faults messages.old) (K.faults messages.new) bytes fault result }
     ensures quiet { result ≡ Fault.Done → fault ≡ Fault.Done }
 {
     match line {
@@ -125,7 +125,7 @@ fn say_placed<K: Sink>(messages: &mut K, line: Result<Vec<u8>, AllocError>, faul
 
 /// Writes the line of a fault to the sink, with the name of the scene text, and nothing at all where all is done. Where
 /// there is no memory for the line, that is the fault.
-pub fn tell<K: Sink>(alloc: Global, messages: &mut K, scene: &[u8], fault: Fault) -> Fault
+pub fn report<K: Sink>(alloc: Global, messages: &mut K, scene: &[u8], fault: Fault) -> Fault
     ensures said { Says (K.written messages.old) (K.written messages.new) (K.faults messages.old) (K.faults messages.new) (line_of scene.now result) }
     ensures quiet { result ≡ Fault.Done → messages.new ≡ messages.old }
     ensures fault { (result ≡ fault) ⊎ ((result ≡ Fault.NoMemory) × IsPlaced fault) }

@@ -8,6 +8,8 @@ mod failures;
 #[cfg(test)]
 mod folders;
 #[cfg(test)]
+mod frames;
+#[cfg(test)]
 mod memory;
 #[cfg(test)]
 mod rig;

@@ -6,7 +6,12 @@ use std::test::Fail;
 use std::thread::Threads;
 
 /// The texts that can be asked for. All are without items, so that each picture is black.
-const TEXTS: [(&str, &[u8]); 4] = [
+const TEXTS: [(&str, &[u8]); 6] = [
+    (
+        "good.ini",
+        b"Input_File_Name=a.pov\nWidth=1\nHeight=1\n[wide]\nWidth=2\n",
+    ),
+    ("bad.ini", b"; one\nWidth=x\n"),
     ("a.pov", b""),
     ("b.c.pov", b""),
     ("n", b""),
@@ -100,46 +105,92 @@ const VALUES: [(&[&str], &[u8]); 26] = [
 ];
 
 /// Words that are refused, and what the sink is told: other switches, other words, and the order of refusals.
-const SWITCHES: [(&[&str], &[u8]); 25] = [
+const SWITCHES: [(&[&str], &[u8]); 19] = [
     (&["a.pov", "+FPx"], b"option fault 1 at word 2\n"),
-    (&["a.pov", "+FP8"], b"option fault 7 at word 2\n"),
-    (&["a.pov", "+FP16"], b"option fault 7 at word 2\n"),
-    (&["a.pov", "+FT"], b"option fault 7 at word 2\n"),
-    (&["a.pov", "+FC"], b"option fault 7 at word 2\n"),
+    (&["a.pov", "+F"], b"option fault 1 at word 2\n"),
     (&["a.pov", "+FN"], b"option fault 7 at word 2\n"),
-    (&["a.pov", "+F"], b"option fault 7 at word 2\n"),
-    (&["a.pov", "+C"], b"option fault 7 at word 2\n"),
-    (&["a.pov", "+WT4"], b"option fault 7 at word 2\n"),
-    (&["a.pov", "-wt0"], b"option fault 7 at word 2\n"),
-    (&["a.pov", "+KFF10"], b"option fault 7 at word 2\n"),
-    (&["a.pov", "+GEN5"], b"option fault 7 at word 2\n"),
-    (&["a.pov", "+A0.3"], b"option fault 7 at word 2\n"),
-    (&["a.pov", "+"], b"option fault 7 at word 2\n"),
-    (&["a.pov", "-"], b"option fault 7 at word 2\n"),
-    (&["a.pov", "++W1"], b"option fault 7 at word 2\n"),
-    (&["a.pov", ""], b"option fault 7 at word 2\n"),
-    (&["a.pov", "W1"], b"option fault 7 at word 2\n"),
-    (&["a.pov", "a.POV"], b"option fault 7 at word 2\n"),
-    (&["a.pov", "a.pov2"], b"option fault 7 at word 2\n"),
-    (&["a.pov", "a.ini"], b"option fault 7 at word 2\n"),
-    (&["/W1"], b"option fault 7 at word 1\n"),
-    (&["+X", "+W0"], b"option fault 7 at word 1\n"),
+    (&["a.pov", "+Q5"], b"option fault 7 at word 2\n"),
+    (&["a.pov", "-wt0"], b"option fault 4 at word 2\n"),
+    (&["a.pov", "+"], b"option fault 1 at word 2\n"),
+    (&["a.pov", ""], b"option fault 1 at word 2\n"),
+    (&["a.pov", "W1"], b"option fault 1 at word 2\n"),
+    (&["a.pov", "a.POV"], b"option fault 1 at word 2\n"),
+    (&["/W1"], b"option fault 1 at word 1\n"),
+    (&["+X", "+W0"], b"option fault 1 at word 1\n"),
     (&["+W0", "+X"], b"option fault 4 at word 1\n"),
     (
         &["a.pov", "+W1", "+Hx", "+H0", "+I"],
         b"option fault 2 at word 3\n",
     ),
+    (&["a.pov", "+A0.3"], b"option fault 7 at word 0\n"),
+    (&["+A"], b"option fault 3 at word 0\n"),
+    (&["a.pov", "none.ini"], b"option fault 5 at word 2\n"),
+    (&["a.pov", "bad.ini"], b"option fault 2 at line 2\n"),
+    (&["a.pov", "+KFF3", "+SF4"], b"option fault 4 at word 0\n"),
+    (&["a.pov", "+GEN0"], b"option fault 4 at word 2\n"),
 ];
+
+/// Words of other sorts of files, and words without effect yet.
+const SORTS: [(&[&str], &str, &[u8]); 9] = [
+    (
+        &["a.pov", "+W1", "+H1", "+FP16"],
+        "a.ppm",
+        b"P6\n1 1\n65535\n\0\0\0\0\0\0",
+    ),
+    (&["a.pov", "+W1", "+H1", "+FP16", "+FP8"], "a.ppm", PIXEL),
+    (&["a.pov", "+W2", "+H1", "+FT"], "a.tga", TARGA),
+    (&["a.pov", "+FT", "+W2", "+H1", "+Ob.x"], "b.x", TARGA),
+    (&["a.pov", "+W2", "+H1", "+FC"], "a.tga", PACKET),
+    (
+        &["a.pov", "+W1", "+H1", "+C", "+WT64", "+D", "+Q9", "-A"],
+        "a.ppm",
+        PIXEL,
+    ),
+    (&["good.ini"], "a.ppm", PIXEL),
+    (
+        &["good.ini[wide]", "+H1"],
+        "a.ppm",
+        b"P6\n2 1\n255\n\0\0\0\0\0\0",
+    ),
+    (&["+GEN3", "a.pov", "+W1", "+H1"], "a.ppm", PIXEL),
+];
+
+/// Two black pixels: plain ones, and one packet of them.
+const TARGA: &[u8] = b"\0\0\x02\0\0\0\0\0\0\0\0\0\x02\0\x01\0\x18\x20\0\0\0\0\0\0";
+
+const PACKET: &[u8] = b"\0\0\x0a\0\0\0\0\0\0\0\0\0\x02\0\x01\0\x18\x20\x81\0\0\0";
+
+fn are_accepted(
+    rt: &(impl Threads + Sync + Abort),
+    alloc: Global,
+    rows: &[(&[&str], &str, &[u8])],
+) -> Result<(), AllocError> {
+    for (words, name, file) in rows {
+        let left = rendered(rt, alloc, words, &TEXTS)?;
+        assert_eq!(rt; left.outcome.status, 0);
+        assert_eq!(rt; left.outcome.finished, 1);
+        assert_eq!(rt; left.told.bytes(), b"".as_slice());
+        assert_eq!(rt; left.outcome.shelf.contents(name.as_bytes()), *file);
+    }
+    Ok(())
+}
 
 #[test]
 fn accepted_words_make_the_picture_file(rt: HostRuntime) -> Result<(), Fail> {
-    for (words, name, file) in &ACCEPTED {
-        let left = rendered(&rt, rt.alloc(), words, &TEXTS)?;
-        assert_eq!(&rt; left.outcome.status, 0);
-        assert_eq!(&rt; left.outcome.finished, 1);
-        assert_eq!(&rt; left.told.bytes(), b"".as_slice());
-        assert_eq!(&rt; left.outcome.shelf.contents(name.as_bytes()), *file);
-    }
+    are_accepted(&rt, rt.alloc(), &ACCEPTED)?;
+    are_accepted(&rt, rt.alloc(), &SORTS)?;
+    Ok(())
+}
+
+/// The generated scene takes the place of the one that is named; its first item isn't drawn yet.
+#[test]
+fn a_generated_scene_ends_at_its_first_item(rt: HostRuntime) -> Result<(), Fail> {
+    let left = rendered(&rt, rt.alloc(), &["a.pov", "+GEN3"], &TEXTS)?;
+    assert_eq!(&rt; left.outcome.status, 2);
+    assert_eq!(&rt;
+        left.told.bytes(),
+        b"scene fault P2 at generated.pov:1\n".as_slice()
+    );
     Ok(())
 }
 

@@ -1,14 +1,15 @@
 -- What comes of the items from here on comes of all.
 use Rattle.std.proofs.Common.{◌≤◌, ◌-◌, length, Result}
-use Rattle.povfix.specs.declared.parser.Refusal.{Refusal}
-use Rattle.povfix.specs.Grammar.{drawn_of, nothing, Drawn, IsItems}
+use Rattle.povfix.specs.declared.refusal.Refusal.{Refusal}
+use Rattle.povfix.specs.Grammar.{IsItems}
+use Rattle.povfix.specs.Scenes.{nothing, Scene}
 use Rattle.povfix.proofs.parser.parse.Given as goal
 
 abbrev pub invariant-items : goal.invariant-items
 invariant-items l = record {
   within : l.at ≤ length l.tokens;
-  few : length l.scene.balls.items ≤ l.at;
-  whole : (r : Result Drawn Refusal) → IsItems l.tokens l.set (drawn_of l.scene) l.at r → IsItems l.tokens l.set nothing 0 r;
+  few : length l.scene.balls ≤ l.at;
+  whole : (r : Result Scene Refusal) → IsItems l.tokens l.set l.scene l.at r → IsItems l.tokens l.set nothing 0 r;
 }
 
 abbrev pub decreases-items : goal.decreases-items

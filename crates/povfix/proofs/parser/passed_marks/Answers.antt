@@ -2,7 +2,7 @@ use Rattle.std.proofs.Common.{◌≡◌, ◌+◌, drop, get_or, true, sym, ap, �
 use Rattle.std.proofs.Math.ListN.{drop_of_length-le}
 use Rattle.povfix.specs.declared.grammar.Mark.TheVariants.{Word}
 use Rattle.povfix.specs.declared.grammar.Keyword.TheVariants.{Ambient}
-use Rattle.povfix.specs.Grammar.{fits_at, passed_marks}
+use Rattle.povfix.specs.Marks.{fits_at, passed_marks}
 use Rattle.povfix.proofs.Items.{marks_further, marks_stop, marks_end, fits_within}
 use Rattle.povfix.proofs.Lists.{drop-next}
 use Rattle.povfix.proofs.parser.passed_marks.Goals as goal

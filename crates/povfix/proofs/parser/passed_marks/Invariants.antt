@@ -1,6 +1,6 @@
 -- The tokens that are left, from here on, come to what all come to.
 use Rattle.std.proofs.Common.{◌≡◌, ◌≤◌, ◌+◌, length, drop}
-use Rattle.povfix.specs.Grammar.{passed_marks}
+use Rattle.povfix.specs.Marks.{passed_marks}
 use Rattle.povfix.proofs.parser.passed_marks.Given as goal
 
 abbrev pub invariant-marks : goal.invariant-marks

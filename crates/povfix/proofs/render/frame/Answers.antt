@@ -1,7 +1,5 @@
-use Rattle.std.proofs.Common.{◌≡◌, ◌≤◌, ◌∙◌, ap, length, arith, subst, sym, Err, Some}
-use Rattle.image_out.specs.declared.picture.Sort.TheVariants.{Ppm}
+use Rattle.std.proofs.Common.{◌≤◌, ◌∙◌, ap, length, arith, subst, sym, Err}
 use Rattle.image_out.specs.Files.{file_of}
-use Rattle.directive_machine.specs.Texts.{text_of}
 use Rattle.scene_lexer.specs.Tokens.{tokens_of}
 use Rattle.povfix.proofs.Counts.{few_tokens}
 use Rattle.povfix.proofs.Endings.{drawn_verdict, lexed_ends, long_at, long_ends, parsed_ends, scene_at, stored_ends, within_at}
@@ -12,26 +10,26 @@ pub returns-in_err-limit-clause-end : goal.returns-in_err-limit-clause-end
 returns-in_err-limit-clause-end g c =
     exit _ _ _ c.from_residual-in_err-limit.ensures.1
     (long_ends _ _ _ _ _ _ _ _ c.in_ok-text.text.items
-    (λ h held. subst (λ name. text_of h name ≡ Some c.in_ok-text.text.items) c.bytes-name.ensures (c.in_ok-text.ensures.text h held))
-    _ (long_at _ _ _ _ _ c.bytes-name.ensures c.deref.ensures.value c.in_err-limit.ensures.fault))
+    c.in_ok-text.ensures.text
+    _ (long_at _ _ _ _ _ c.bytes-input.ensures c.deref.ensures.value c.in_err-limit.ensures.fault))
 
 pub returns-in_err-tokens-clause-end : goal.returns-in_err-tokens-clause-end
 returns-in_err-tokens-clause-end g c =
     exit _ _ _ c.from_residual-in_err-tokens.ensures.1
     (lexed_ends _ _ _ _ _ _ _ _ c.in_ok-text.text.items
-    (λ h held. subst (λ name. text_of h name ≡ Some c.in_ok-text.text.items) c.bytes-name.ensures (c.in_ok-text.ensures.text h held))
-    _ (within_at _ _ _ _ c.bytes-name.ensures c.deref.ensures.value c.in_ok-limit.ensures.within)
+    c.in_ok-text.ensures.text
+    _ (within_at _ _ _ _ c.bytes-input.ensures c.deref.ensures.value c.in_ok-limit.ensures.within)
     (λ some. sym (ap (tokens_of 0) c.deref-2.ensures.value) ∙ c.in_err-tokens.ensures.fault some))
 
 pub returns-in_err-scene-clause-end : goal.returns-in_err-scene-clause-end
 returns-in_err-scene-clause-end g c =
     exit _ _ _ c.from_residual-in_err-scene.ensures.1
     (parsed_ends _ _ _ _ _ _ _ _ c.in_ok-text.text.items
-    (λ h held. subst (λ name. text_of h name ≡ Some c.in_ok-text.text.items) c.bytes-name.ensures (c.in_ok-text.ensures.text h held))
+    c.in_ok-text.ensures.text
     c.in_ok-tokens.tokens.items _
-    (within_at _ _ _ _ c.bytes-name.ensures c.deref.ensures.value c.in_ok-limit.ensures.within)
+    (within_at _ _ _ _ c.bytes-input.ensures c.deref.ensures.value c.in_ok-limit.ensures.within)
     (sym (ap (tokens_of 0) c.deref-2.ensures.value) ∙ c.in_ok-tokens.ensures.tokens)
-    (λ some. scene_at _ _ _ _ _ c.deref-3.ensures.value c.settings_of.ensures.value (c.in_err-scene.ensures.refusal some)))
+    (λ some. scene_at _ _ _ _ _ c.deref-3.ensures.value c.settings.ensures.value (c.in_err-scene.ensures.refusal some)))
 
 pub draw-requires-clause-few : goal.draw-requires-clause-few
 draw-requires-clause-few g c =
@@ -43,7 +41,7 @@ draw-requires-clause-few g c =
       few,
       ap length c.deref.ensures.value,
       ap length c.deref-2.ensures.value,
-      subst (λ tokens. length c.in_ok-scene.scene.balls.items ≤ length tokens) c.deref-3.ensures.value c.in_ok-scene.ensures.few,
+      subst (λ tokens. length c.in_ok-scene.scene.balls ≤ length tokens) c.deref-3.ensures.value c.in_ok-scene.ensures.few,
     )
 
 pub returns-in_err-store-clause-end : goal.returns-in_err-store-clause-end
@@ -51,13 +49,13 @@ returns-in_err-store-clause-end g c =
     exit _ _ _ c.from_residual-in_err-store.ensures.1
     (stored_ends _ _ _ _ _ _ _ _ _ _ c.in_err-store.field-0.0
     (drawn_verdict _ _ c.in_ok-text.text.items
-    (λ h held. subst (λ name. text_of h name ≡ Some c.in_ok-text.text.items) c.bytes-name.ensures (c.in_ok-text.ensures.text h held))
+    c.in_ok-text.ensures.text
     c.in_ok-tokens.tokens.items _ _ c.in_ok-file.file.items
-    (within_at _ _ _ _ c.bytes-name.ensures c.deref.ensures.value c.in_ok-limit.ensures.within)
+    (within_at _ _ _ _ c.bytes-input.ensures c.deref.ensures.value c.in_ok-limit.ensures.within)
     (sym (ap (tokens_of 0) c.deref-2.ensures.value) ∙ c.in_ok-tokens.ensures.tokens)
-    (scene_at _ _ _ _ _ c.deref-3.ensures.value c.settings_of.ensures.value c.in_ok-scene.ensures.scene)
+    (scene_at _ _ _ _ _ c.deref-3.ensures.value c.settings.ensures.value c.in_ok-scene.ensures.scene)
     c.in_ok-picture.ensures
-    (c.in_ok-file.ensures ∙ ap (file_of Ppm c.args.plan.now.width c.args.plan.now.height 8) c.deref-4.ensures.value))
+    (c.in_ok-file.ensures ∙ ap (file_of c.args.plan.now.sort c.args.plan.now.width c.args.plan.now.height c.args.plan.now.bits) c.deref-4.ensures.value))
     (λ e. c.in_err-store.ensures.cause.rose (ap (λ fail. Err fail) e))
     (λ e. c.in_err-store.ensures.memory (ap (λ fail. Err fail) e))
     (λ e. c.in_err-store.ensures.crash_memory (ap (λ fail. Err fail) e)))
@@ -65,10 +63,10 @@ returns-in_err-store-clause-end g c =
 pub returns-clause-drawn : goal.returns-clause-drawn
 returns-clause-drawn g c =
     drawn_verdict _ _ c.in_ok-text.text.items
-    (λ h held. subst (λ name. text_of h name ≡ Some c.in_ok-text.text.items) c.bytes-name.ensures (c.in_ok-text.ensures.text h held))
+    c.in_ok-text.ensures.text
     c.in_ok-tokens.tokens.items _ _ c.in_ok-file.file.items
-    (within_at _ _ _ _ c.bytes-name.ensures c.deref.ensures.value c.in_ok-limit.ensures.within)
+    (within_at _ _ _ _ c.bytes-input.ensures c.deref.ensures.value c.in_ok-limit.ensures.within)
     (sym (ap (tokens_of 0) c.deref-2.ensures.value) ∙ c.in_ok-tokens.ensures.tokens)
-    (scene_at _ _ _ _ _ c.deref-3.ensures.value c.settings_of.ensures.value c.in_ok-scene.ensures.scene)
+    (scene_at _ _ _ _ _ c.deref-3.ensures.value c.settings.ensures.value c.in_ok-scene.ensures.scene)
     c.in_ok-picture.ensures
-    (c.in_ok-file.ensures ∙ ap (file_of Ppm c.args.plan.now.width c.args.plan.now.height 8) c.deref-4.ensures.value)
+    (c.in_ok-file.ensures ∙ ap (file_of c.args.plan.now.sort c.args.plan.now.width c.args.plan.now.height c.args.plan.now.bits) c.deref-4.ensures.value)

@@ -1,9 +1,0 @@
--- No dot stands from `end` on.
-use Rattle.std.proofs.Common.{◌≡◌, ◌<◌, ◌≤◌, ℕ, length, get_or}
-use Rattle.povfix.proofs.options.stem_length.Given as goal
-
-abbrev pub invariant-loop-end : goal.invariant-loop-end
-invariant-loop-end l = record { within : l.end ≤ length l.name; none : (k : ℕ) → l.end ≤ k → k < length l.name → get_or l.name k 0 ≡ 46 → ⊥ }
-
-abbrev pub decreases-loop-end : goal.decreases-loop-end
-decreases-loop-end l = l.end
