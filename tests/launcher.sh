@@ -206,24 +206,32 @@ fi
 cd "$here/folder"
 holds '--help of the real launcher' "$("$POVFIX" --help 2>&1)" '+Iname' '+Wn' 'exit status' 'examples/' 'docs'
 equal '--version of the real launcher' 3 "$("$POVFIX" --version 2>&1 | wc -l)"
+# How long it takes, beside a script of one line that starts the same program; the two in turns, and the least of each.
+# A machine may be slow, or at work with something else: then it is the one line that tells how long a start takes.
 case $(date +%N) in
     *[!0-9]* | '') skipped 'the time of a start' 'date tells no nanoseconds here' ;;
     *)
-        least=
-        for _ in 1 2 3 4 5 6 7 8 9 10 11 12 13 14 15 16 17 18 19 20 21 22 23 24 25 26 27 28 29 30; do
+        program=${POVFIX%/*}/crates/povfix_main/out/povfix_main
+        printf '#!/bin/sh\nexec "%s" "$@"\n' "$program" >"$here/one line"
+        chmod +x "$here/one line"
+        # the hundredths of a millisecond that $1 takes, if that is less than $2
+        least_of() {
             before=$(date +%s%N)
-            "$POVFIX" + 2>/dev/null || true
+            "$1" + 2>/dev/null || true
             after=$(date +%s%N)
             took=$(((after - before) / 10000))
-            if [ -z "$least" ] || [ "$took" -lt "$least" ]; then least=$took; fi
+            if [ "$took" -lt "$2" ]; then echo "$took"; else echo "$2"; fi
+        }
+        launcher=1000000 alone=1000000
+        for _ in 1 2 3 4 5 6 7 8 9 10 11 12 13 14 15 16 17 18 19 20 21 22 23 24 25 26 27 28 29 30; do
+            launcher=$(least_of "$POVFIX" "$launcher")
+            alone=$(least_of "$here/one line" "$alone")
         done
-        name="it starts the program and ends in less than 10 ms ($((least / 100)).$(printf %02d $((least % 100))) ms, the least of 30)"
-        # (where more programs want a processor than there are, the time tells nothing of the launcher)
-        load=$(cut -d. -f1 /proc/loadavg 2>/dev/null || echo 0)
-        if [ "$least" -lt 1000 ]; then
+        milliseconds() { printf '%d.%02d ms' $(($1 / 100)) $(($1 % 100)); }
+        name="it starts the program in less than 10 ms, or in at most three times what one line takes"
+        name="$name ($(milliseconds "$launcher") and $(milliseconds "$alone"))"
+        if [ "$launcher" -lt 1000 ] || [ "$launcher" -le $((3 * alone)) ]; then
             passed "$name"
-        elif [ "$load" -ge "$(getconf _NPROCESSORS_ONLN)" ]; then
-            skipped "$name" 'the machine is at work with something else'
         else
             failed "$name" 'it takes longer'
         fi
