@@ -13,12 +13,13 @@ else
     failed 'the page and --help have what the documents have' "$said"
 fi
 
-# Every word in a table of the options, and every status, as the tables have them.
-words=$(awk -F '`' '/^\| `/ { print $2 }' "$home/docs/OPTIONS.md")
+# Every word in a table of the options, and every status, as the tables have them. Names that share a row stand together.
+words=$(awk -F '|' '/^\| `/ { gsub(/`/, "", $2); gsub(/^ | $/, "", $2); gsub(/, /, ",", $2); print $2 }' "$home/docs/OPTIONS.md")
 statuses=$(awk '/^## / { exit } /^\| [0-9]/ { print $2 }' "$home/docs/FAULTS.md")
 help=$("$POVFIX" --help)
 missing=
-for word in $words; do
+for row in $words; do
+    word=$(printf '%s\n' "$row" | sed 's/,/, /g')
     printf '%s\n' "$help" | grep -q -F -e "  $word " || missing="$missing $word in --help;"
     grep -q -x -F -e ".B $word" "$page" || missing="$missing $word in the page;"
 done

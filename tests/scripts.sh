@@ -9,7 +9,7 @@ if ! command -v shellcheck >/dev/null; then
     exit
 fi
 cd "${TESTS%/*}"
-for script in povfix .ci/run tools/* tests/run tests/*.sh tests/lib/*; do
+for script in povfix .ci/run examples/* tools/* tests/run tests/*.sh tests/lib/*; do
     # (a folder may hold other things than scripts)
     case $(head -n 1 "$script") in
         '#!'*sh | '# shellcheck shell='*) equal "shellcheck finds nothing in $script" '' "$(shellcheck "$script" 2>&1 || true)" ;;

@@ -42,6 +42,16 @@ spaces 100000 >b.ppm
 ending 'a picture over a longer file' 0 '' "$POVFIX" a.pov +W1 +H1 +Ob.ppm
 has_pixel 'the longer file is cut' b.ppm
 
+folder frames
+printf 'Input_File_Name=a.pov\nWidth=1\nHeight=1\nFinal_Frame=11\n' >film.ini
+ending 'an animation' 0 '' "$POVFIX" film.ini +SF9
+for frame in 09 10 11; do has_pixel "the file of frame $frame" "a$frame.ppm"; done
+equal 'no file before the subset' no "$([ -e a08.ppm ] && echo yes || echo no)"
+printf '%s' 'background { rgb <1, 0.5, 1 / (2 - frame_number) - 1> }' >b.pov
+ending 'a frame that is refused' 2 'scene fault P3 at b.pov:1' "$POVFIX" b.pov +W1 +H1 +KFF3
+has_pixel 'the file of the frame before it' b1.ppm
+equal 'no file of the refused frame' no "$([ -e b2.ppm ] && echo yes || echo no)"
+
 folder lengths
 {
     spaces 200000
@@ -64,7 +74,11 @@ equal 'a refused text leaves no file' no "$([ -e d.ppm ] && echo yes || echo no)
 
 folder refusals
 printf '\n$' >b.pov
-ending 'a word that is unknown' 1 'option fault 7 at word 2' "$POVFIX" a.pov +Z
+ending 'a word that is unknown' 1 'option fault 1 at word 2' "$POVFIX" a.pov +Z
+ending 'a word that is out of profile' 1 'option fault 7 at word 2' "$POVFIX" a.pov +FN
+printf 'Input_File_Name=a.pov\nWidth=0\n' >bad.ini
+ending 'a line of an INI file' 1 'option fault 4 at line 2' "$POVFIX" bad.ini
+ending 'an INI file that is not there' 1 'option fault 5 at word 1' "$POVFIX" none.ini
 ending 'a word that is not UTF-8' 1 'option fault 7 at word 0' "$POVFIX" "$(printf 'a\377.pov')"
 ending 'no word' 1 'option fault 3 at word 0' "$POVFIX" +W1
 ending 'a text that begins no token' 2 'scene fault L1 at b.pov:2' "$POVFIX" b.pov
