@@ -7,6 +7,8 @@ pub mod WideLemmas
 pub mod PartsLemmas
 pub mod Squares
 pub mod Told
+pub mod UprightLemmas
+pub mod Leaving
 pub mod Terms
 pub mod MakingLemmas
 pub mod Rooms

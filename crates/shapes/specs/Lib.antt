@@ -11,3 +11,4 @@ pub mod Solids
 pub mod Quadrics
 pub mod Outward
 pub mod Growths
+pub mod Upright

@@ -95,7 +95,20 @@ impl Solid {
     }
 
     /// The numbers of the path at which the solid holds.
+    #[inline(always)]
     pub fn stretches(&self, path: &Path) -> Stretches
+        ensures { (t : ℕ) → is_in_stretches result t
+            ≡ (nat_lt t path.now.end && all_hold (solid_faces self.now (point_at path.now.ray t))) }
+    {
+        if let Body::Ball(globe) = &self.body {
+            return globe.stretches(path);
+        }
+        self.all_stretches(path)
+    }
+
+    /// The same: a call, where `stretches` rejects most spheres without one.
+    #[inline(never)]
+    fn all_stretches(&self, path: &Path) -> Stretches
         ensures { (t : ℕ) → is_in_stretches result t
             ≡ (nat_lt t path.now.end && all_hold (solid_faces self.now (point_at path.now.ray t))) }
     {

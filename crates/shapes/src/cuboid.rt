@@ -1,8 +1,10 @@
 // Boxes under a transform.
-ghost use Rattle.std.specs.Prelude.{◌≡◌, ℕ, ◌&&◌, nat_lt};
+ghost use Rattle.std.specs.Prelude.{◌≡◌, ℕ, ◌&&◌, nat_lt, IfSome};
 ghost use Rattle.shapes.specs.Faces.{all_hold};
 ghost use Rattle.shapes.specs.Lines.{is_in_stretches};
 ghost use Rattle.shapes.specs.Rays.{point_at};
+ghost use Rattle.std.proofs.Props.{props};
+ghost use Rattle.shapes.specs.Upright.{IsPlainBox};
 
 use crate::axes::Axes;
 use crate::outward::unit_out_of_ends;
@@ -11,6 +13,7 @@ use crate::path::Path;
 use crate::ray::Point;
 use crate::sight::Sight;
 use crate::span::Span;
+use crate::upright::Upright;
 use crate::wide::Length;
 use fix_math::V3;
 
@@ -21,6 +24,9 @@ pub struct Cuboid {
     pub x: Length,
     pub y: Length,
     pub z: Length,
+    /// The same as a box along the axes of the world, where it is one: rays are asked in 64 bits then.
+    pub upright: Option<Upright>,
+    ghost same: { IfSome upright (λ found. IsPlainBox axes x.value y.value z.value found) } by { Prim.hlevel props },
 }
 
 impl Cuboid {
@@ -31,8 +37,20 @@ impl Cuboid {
     ghost use Rattle.shapes.specs.Bodies.{cuboid_faces};
 
     /// The numbers of the path in the box.
-    #[inline(never)]
+    #[inline]
     pub fn stretches(&self, path: &Path) -> Stretches
+        ensures { (t : ℕ) → is_in_stretches result t
+            ≡ (nat_lt t path.now.end && all_hold (cuboid_faces self.now (point_at path.now.ray t))) }
+    {
+        match &self.upright {
+            Some(upright) => upright.span(&self.axes.anchor, path).alone(),
+            None => self.turned_stretches(path),
+        }
+    }
+
+    /// The same by its axes.
+    #[inline(never)]
+    fn turned_stretches(&self, path: &Path) -> Stretches
         ensures { (t : ℕ) → is_in_stretches result t
             ≡ (nat_lt t path.now.end && all_hold (cuboid_faces self.now (point_at path.now.ray t))) }
     {

@@ -2,7 +2,7 @@
 ghost use Rattle.std.specs.Prelude.{◌≡◌, ◌↔◌, ℕ, ℤ, pos, ◌<◌, ◌≤◌, ◌^◌, ◌≤ℤ◌, unsigned_abs};
 ghost use Rattle.shapes.specs.Bends.{IsConvex, HasBend};
 
-use crate::search::{Test, first};
+use crate::search::{Test, first_near};
 use crate::span::Span;
 
 /// A number for each whole number, whose steps change evenly. It is asked for only where it is small.
@@ -82,8 +82,10 @@ impl<'a, C: Curve> Test for Above<'a, C> {
 
 ghost use Rattle.shapes.specs.Lines.{IsWithin};
 
-/// The numbers of the span at which a curve whose steps grow is at most the limit.
-pub fn valley<C: Curve>(curve: &C, limit: i128, span: Span) -> Span
+/// The numbers of the span at which a curve whose steps grow is at most the limit, by its turning point,
+/// which is looked for near a guess.
+#[inline(never)]
+pub fn valley<C: Curve>(curve: &C, limit: i128, span: Span, guess: u64) -> Span
     requires opens { IsConvex (C.value curve.now) }
     requires near { (t : ℕ) → IsWithin span t → C.can_eval curve.now t }
     ensures { (t : ℕ) → IsWithin result t ↔ (IsWithin span t × (C.value curve.now t ≤ℤ limit)) }
@@ -91,9 +93,9 @@ pub fn valley<C: Curve>(curve: &C, limit: i128, span: Span) -> Span
     if span.from >= span.end {
         return span;
     }
-    let turn = first(&Climbs { curve }, span.from, span.end - 1);
-    let from = first(&AtMost { curve, limit }, span.from, turn);
-    let end = first(&Above { curve, limit }, turn, span.end);
+    let turn = first_near(&Climbs { curve }, span.from, span.end - 1, guess);
+    let from = first_near(&AtMost { curve, limit }, span.from, turn, turn);
+    let end = first_near(&Above { curve, limit }, turn, span.end, turn);
     Span { from, end }
 }
 

@@ -1,8 +1,10 @@
 // Spheres under a transform.
-ghost use Rattle.std.specs.Prelude.{◌≡◌, ◌↔◌, ℕ, ◌<◌, ◌^◌, ◌&&◌, nat_lt, true};
+ghost use Rattle.std.specs.Prelude.{◌≡◌, ◌↔◌, ℕ, ◌<◌, ◌^◌, ◌&&◌, nat_lt, true, IfSome};
 ghost use Rattle.shapes.specs.Faces.{all_hold};
 ghost use Rattle.shapes.specs.Lines.{is_in_stretches};
 ghost use Rattle.shapes.specs.Rays.{point_at};
+ghost use Rattle.std.proofs.Props.{props};
+ghost use Rattle.shapes.specs.Upright.{IsPlainBall};
 
 use crate::axes::Axes;
 use crate::curve::Curve;
@@ -13,6 +15,7 @@ use crate::path::Path;
 use crate::ray::Point;
 use crate::sight::Sight;
 use crate::span::Span;
+use crate::sphere::Sphere;
 use crate::wide::{Length, WideLine};
 use fix_math::V3;
 
@@ -21,6 +24,9 @@ use fix_math::V3;
 pub struct Globe {
     pub axes: Axes,
     pub radius: Length,
+    /// The same as a sphere of the world, where it is one: rays are asked in 64 bits then.
+    pub plain: Option<Sphere>,
+    ghost same: { IfSome plain (λ sphere. IsPlainBall axes radius.value sphere) } by { Prim.hlevel props },
 }
 
 /// The square of a ray's distance from a point, less that of a radius.
@@ -64,8 +70,20 @@ impl Globe {
     ghost use Rattle.shapes.specs.Lines.{IsInStretches, IsWithin, sight_at};
 
     /// The numbers of the path in the sphere.
-    #[inline(never)]
+    #[inline(always)]
     pub fn stretches(&self, path: &Path) -> Stretches
+        ensures { (t : ℕ) → is_in_stretches result t
+            ≡ (nat_lt t path.now.end && all_hold (globe_faces self.now (point_at path.now.ray t))) }
+    {
+        match &self.plain {
+            Some(sphere) => sphere.row(path).alone(),
+            None => self.turned_stretches(path),
+        }
+    }
+
+    /// The same by its axes.
+    #[inline(never)]
+    fn turned_stretches(&self, path: &Path) -> Stretches
         ensures { (t : ℕ) → is_in_stretches result t
             ≡ (nat_lt t path.now.end && all_hold (globe_faces self.now (point_at path.now.ray t))) }
     {
@@ -86,8 +104,14 @@ impl Globe {
     {
         let x = self.axes.first.along(sight);
         let along_x = x.slab(self.radius, span);
+        if along_x.from >= along_x.end {
+            return along_x.alone();
+        }
         let y = self.axes.second.along(sight);
         let along_y = y.slab(self.radius, along_x);
+        if along_y.from >= along_y.end {
+            return along_y.alone();
+        }
         let z = self.axes.third.along(sight);
         let along_z = z.slab(self.radius, along_y);
         let ball = Ball {

@@ -26,6 +26,7 @@ mod span;
 mod sphere;
 mod taper;
 mod tube;
+mod upright;
 mod volume;
 mod wide;
 

@@ -17,8 +17,10 @@ use crate::axes::{Axes, Form, WideForm};
 use crate::cuboid::Cuboid;
 use crate::globe::Globe;
 use crate::half_space::HalfSpace;
+use crate::sphere::Sphere;
 use crate::taper::Taper;
 use crate::tube::Tube;
+use crate::upright::Upright;
 use crate::wide::{Factor, Length, Limit, WideFactor};
 use fix_math::{Fix, V3, rounded};
 use xform::{Spot, Xform};
@@ -167,7 +169,12 @@ pub fn globe(spot: &Spot, r: Fix) -> Globe
 {
     let axes = Axes::of(spot);
     let radius = Length::of(spot, r);
-    Globe { axes, radius }
+    let plain = Sphere::along_axes(&axes, radius);
+    Globe {
+        axes,
+        radius,
+        plain,
+    }
 }
 
 /// A box by its spot and sides.
@@ -190,7 +197,14 @@ pub fn cuboid(spot: &Spot, size: &V3) -> Cuboid
     let x = Length::of(spot, size.x);
     let y = Length::of(spot, size.y);
     let z = Length::of(spot, size.z);
-    Cuboid { axes, x, y, z }
+    let upright = Upright::along_axes(&axes, x, y, z);
+    Cuboid {
+        axes,
+        x,
+        y,
+        z,
+        upright,
+    }
 }
 
 /// A plane by its spot, its direction and its distance.

@@ -1,63 +1,11 @@
 // The numbers at which a curve that opens upward is small, from a guess of where they end.
-ghost use Rattle.std.specs.Prelude.{◌≡◌, ◌↔◌, ℕ, ℤ, pos, ◌<◌, ◌≤◌, ◌^◌, ◌≤ℤ◌, ◌<ℤ◌, ◌+◌, IsTrue, true, false};
+ghost use Rattle.std.specs.Prelude.{◌↔◌, ℕ, ◌<◌, ◌≤◌, ◌≤ℤ◌, ◌<ℤ◌, IsTrue};
 ghost use Rattle.shapes.specs.Bends.{IsConvex};
 ghost use Rattle.shapes.specs.Lines.{IsWithin};
 
 use crate::curve::{Above, AtMost, Curve, valley};
-use crate::search::Test;
+use crate::search::{clamped, first_near};
 use crate::span::Span;
-
-/// A number near the guess, from `low` on and below `high`.
-#[inline]
-fn clamped(guess: u64, low: u64, high: u64) -> u64
-    requires { low < high }
-    ensures low { low ≤ result }
-    ensures high { result < high }
-{
-    if guess < low {
-        low
-    } else if guess < high {
-        guess
-    } else {
-        high - 1
-    }
-}
-
-/// The first number from `from` on and below `end` at which the test passes; `end` where there is none.
-/// Where it passes once, it passes at all numbers behind. The first questions are near a guess, which
-/// may be any number.
-#[inline]
-pub fn first_near<T: Test>(test: &T, from: u64, end: u64, guess: u64) -> u64
-    requires ordered { from ≤ end }
-    requires askable { (t : ℕ) → from ≤ t → t < end → T.can_ask test.now t }
-    requires rises { (s t : ℕ) → from ≤ s → s ≤ t → t < end → T.answer test.now s ≡ true
-        → T.answer test.now t ≡ true }
-    ensures low { from ≤ result }
-    ensures high { result ≤ end }
-    ensures before { (t : ℕ) → from ≤ t → t < result → T.answer test.now t ≡ false }
-    ensures after { (t : ℕ) → result ≤ t → t < end → T.answer test.now t ≡ true }
-{
-    let mut low = from;
-    let mut high = end;
-    let mut wish = guess;
-    let mut reach: u64 = 1;
-    while low < high {
-        let middle = if reach < 1000 {
-            clamped(wish, low, high)
-        } else {
-            clamped(low + (high - low) / 2, low, high)
-        };
-        if test.ask(middle) {
-            high = middle;
-            wish = middle.saturating_sub(reach);
-        } else {
-            low = middle + 1;
-            wish = low.saturating_add(reach - 1);
-        }
-        reach = reach.saturating_mul(8);
-    }
-    low
-}
 
 /// Whether it shows at a number of the span that the curve is above the limit in all the span: it falls
 /// up to there, and climbs from there on.
@@ -100,7 +48,7 @@ pub fn valley_near<C: Curve>(
         if is_passed(curve, limit, span, inside) {
             return Span { from: 0, end: 0 };
         }
-        return valley(curve, limit, span);
+        return valley(curve, limit, span, inside);
     }
     let from = first_near(&AtMost { curve, limit }, span.from, inside, first);
     let end = first_near(

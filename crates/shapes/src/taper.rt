@@ -80,6 +80,9 @@ impl Taper {
         };
         let z = self.axes.third.along(&sight);
         let capped = z.between_ends(self.height, whole);
+        if capped.from >= capped.end {
+            return capped.alone();
+        }
         self.shell(&sight, capped)
     }
 
@@ -92,8 +95,14 @@ impl Taper {
     {
         let x = self.axes.first.along(sight);
         let along_x = x.slab(self.widest, span);
+        if along_x.from >= along_x.end {
+            return along_x.alone();
+        }
         let y = self.axes.second.along(sight);
         let along_y = y.slab(self.widest, along_x);
+        if along_y.from >= along_y.end {
+            return along_y.alone();
+        }
         let radius = self.slope.along(sight).more(self.start);
         let some = radius.between_ends(Length::longest(), along_y);
         let funnel = Funnel {

@@ -76,6 +76,9 @@ impl Tube {
         };
         let z = self.axes.third.along(&sight);
         let capped = z.between_ends(self.height, whole);
+        if capped.from >= capped.end {
+            return capped.alone();
+        }
         self.shell(&sight, capped)
     }
 
@@ -88,6 +91,9 @@ impl Tube {
     {
         let x = self.axes.first.along(sight);
         let along_x = x.slab(self.radius, span);
+        if along_x.from >= along_x.end {
+            return along_x.alone();
+        }
         let y = self.axes.second.along(sight);
         let along_y = y.slab(self.radius, along_x);
         let pipe = Pipe {

@@ -1,8 +1,7 @@
 // Lines of solids that are turned: sums of products with the coordinates of a ray.
 ghost use Rattle.std.specs.Prelude.{◌≡◌, ◌↔◌, ℕ, pos, ◌+ℤ◌, ◌-ℤ◌, ◌*ℤ◌, ◌<◌, ◌≤◌, ◌^◌, ◌≤ℤ◌, ◌<ℤ◌, unsigned_abs};
 
-use crate::near::first_near;
-use crate::search::Test;
+use crate::search::{Test, first_near};
 use crate::span::{Line, Span};
 
 /// A number that grows by `step` from each whole number to the next, and is `at` at 0.

@@ -91,7 +91,22 @@ fn agree(solid: &Solid, ray: &Ray, ranges: &Ranges, from: u64, end: u64) -> bool
     true
 }
 
-/// Whether a row's ranges are found, and are those of the points near its ray's ends and each end of a range.
+/// The same for 200 numbers that are spread over the ray.
+fn agree_apart(solid: &Solid, ray: &Ray, ranges: &Ranges, last: u64) -> bool {
+    for share in 0..200u64 {
+        let t = last.wrapping_mul(share) / 200;
+        if !agree(solid, ray, ranges, t, t.saturating_add(1)) {
+            return false;
+        }
+    }
+    true
+}
+
+/// How many numbers of a ray are asked one by one, from its origin on: most of the solids lie within them.
+const EACH: u64 = 1 << 17;
+
+/// Whether a row's ranges are found, and are those of the points: of each one of the first numbers, of those near the
+/// ray's end and each end of a range, and of others between.
 fn is_right(row: &Row) -> bool {
     let (written, by, origin, dir, count, spans) = *row;
     let found = solid_of(&written, by);
@@ -101,7 +116,9 @@ fn is_right(row: &Row) -> bool {
     let (Some(found), Some(last)) = (ranges_of(&solid, &ray), last_t(&ray)) else {
         return false;
     };
-    let mut is_right = found == Ranges { count, spans };
+    let mut is_right = found == Ranges { count, spans }
+        && agree(&solid, &ray, &found, 0, EACH)
+        && agree_apart(&solid, &ray, &found, last);
     for t in [0, spans[0].0, spans[0].1, spans[1].0, spans[1].1, last] {
         let from = t.saturating_sub(20);
         is_right = is_right && agree(&solid, &ray, &found, from, t.saturating_add(20));

@@ -1,12 +1,12 @@
 // Solids to measure with: each is 20 units away along the z axis, and hides it from all rays of a narrow cone.
-use written_leaves::Move::{self, Stay, Turn};
+use written_leaves::Move::{self, Halve, Stay, Turn};
 use written_leaves::Written::{self, Ball, Block, Bowl, Half, Horn, Tube};
 
 /// 1 unit.
 const UNIT: i32 = 65536;
 
 /// The solids by their names, with their transforms.
-pub fn solids() -> [(&'static str, Written, Move); 11] {
+pub fn solids() -> [(&'static str, Written, Move); 13] {
     let far = [0, 0, 20 * UNIT];
     let near_end = [0, -10 * UNIT, 20 * UNIT];
     let up = [0, 20 * UNIT, 0];
@@ -18,6 +18,7 @@ pub fn solids() -> [(&'static str, Written, Move); 11] {
     let five = 5 * UNIT;
     [
         ("sphere", Ball(far, ten), Stay),
+        ("sphere, halved", Ball([0, 0, 40 * UNIT], 2 * ten), Halve),
         ("sphere, turned", Ball(turned_far, ten), Turn),
         (
             "box",
@@ -39,6 +40,11 @@ pub fn solids() -> [(&'static str, Written, Move); 11] {
         ("cylinder, turned", Tube(turned_end, turned_up, ten), Turn),
         ("cone", Horn(near_end, up, ten, five), Stay),
         ("cone, turned", Horn(turned_end, turned_up, ten, five), Turn),
+        (
+            "quadric",
+            Bowl([UNIT, UNIT, UNIT, 0, 0, 0, 0, 0, -40 * UNIT, 300 * UNIT]),
+            Stay,
+        ),
         (
             "quadric, turned",
             Bowl([

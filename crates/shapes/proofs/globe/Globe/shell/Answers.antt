@@ -1,7 +1,8 @@
 use Rattle.fix_math.specs.declared.fix.V3.{V3}
 use Rattle.shapes.specs.Lines.{wide_at, sight_at}
 use Rattle.shapes.specs.Bodies.{own_of}
-use Rattle.shapes.proofs.Told.{ball_shell}
+use Rattle.shapes.proofs.Leaving.{no_numbers, left_empty, both_tests}
+use Rattle.shapes.proofs.Told.{ball_shell, ball_test}
 use Rattle.shapes.proofs.globe.Globe.shell.Goals as goal
 
 pub slab-along_y-requires-clause-low : goal.slab-along_y-requires-clause-low
@@ -22,3 +23,16 @@ returns c = λ t.
     let u : V3 = sight_at c.args.sight.now t in
     ball_shell c.parts.result t c.args.self.now.radius.value (wide_at c.along-x.result t) (wide_at c.along-y.result t) (wide_at c.along-z.result t) (own_of axes u) _ _ _ _
     (c.along-x.ensures.value t) (c.along-y.ensures.value t) (c.along-z.ensures.value t) (c.slab-along_x.ensures t) (c.slab-along_y.ensures t) (c.slab-along_z.ensures t) (c.parts.ensures t)
+
+pub returns-then-along_x : goal.returns-then-along_x
+returns-then-along_x c = λ t.
+    let l : V3 = own_of c.args.self.now.axes (sight_at c.args.sight.now t) in
+    left_empty _ _ _ _ _ (c.alone.ensures t) (no_numbers c.slab-along_x.result t c.if-along_x.true)
+    (λ b. rw (c.along-x.ensures.value t) ((ball_test c.args.self.now.radius.value l).0 b).0) (c.slab-along_x.ensures t)
+
+pub returns-then-along_y : goal.returns-then-along_y
+returns-then-along_y c = λ t.
+    let l : V3 = own_of c.args.self.now.axes (sight_at c.args.sight.now t) in
+    left_empty _ _ _ _ _ (c.alone-then-along_y.ensures t) (no_numbers c.slab-along_y.result t c.if-along_y.true)
+    (λ b. let k = (ball_test c.args.self.now.radius.value l).0 b in (rw (c.along-x.ensures.value t) k.0, rw (c.along-y.ensures.value t) k.1.0))
+    (both_tests _ _ _ _ _ (c.slab-along_x.ensures t) (c.slab-along_y.ensures t))

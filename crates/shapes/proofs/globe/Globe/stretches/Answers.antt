@@ -1,16 +1,14 @@
-use Rattle.std.proofs.Common.{ap, Bool}
-use Rattle.fix_math.specs.declared.fix.V3.{V3}
-use Rattle.shapes.specs.Faces.{seen_from, in_ball}
+use Rattle.std.proofs.Common.{subst, Option, IfSome}
 use Rattle.shapes.specs.Rays.{point_at}
-use Rattle.shapes.specs.Lines.{sight_at}
-use Rattle.shapes.specs.Bodies.{own_of}
-use Rattle.shapes.proofs.Told.{shell_told}
+use Rattle.shapes.specs.Upright.{IsPlainBall}
+use Rattle.shapes.specs.declared.sphere.Sphere.{Sphere}
+use Rattle.shapes.proofs.UprightLemmas.{plain_ball_told}
 use Rattle.shapes.proofs.globe.Globe.stretches.Goals as goal
 
-pub returns : goal.returns
-returns c = λ t.
+pub returns-in-Some : goal.returns-in-Some
+returns-in-Some c = λ t.
     let globe = c.args.self.now in
-    let u : V3 = seen_from globe.axes.anchor (point_at c.args.path.now.ray t) in
-    let seen = c.of_path-sight.ensures t in
-    let face : V3 → Bool = λ v. in_ball globe.radius.value (own_of globe.axes v) in
-    shell_told c.shell.result t c.args.path.now.end (face (sight_at c.of_path-sight.result t)) (face u) (ap face seen) (c.shell.ensures t)
+    let h : IsPlainBall globe.axes globe.radius.value c.in-Some.sphere =
+    subst (λ (o : Option Sphere). IfSome o (λ sphere. IsPlainBall globe.axes globe.radius.value sphere)) c.in-Some.is globe.same in
+    plain_ball_told c.alone.result t c.args.path.now.end _ globe.axes globe.radius.value c.in-Some.sphere (point_at c.args.path.now.ray t) h
+    (c.alone.ensures t) (c.row.ensures t)
