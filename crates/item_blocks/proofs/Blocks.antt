@@ -23,10 +23,6 @@ own_is kind tokens (suc d) s at r some is =
     let e : suc d - 1 ≡ d = omega arith in
     subst (λ n. IsBraced kind tokens n (IsOwn kind tokens n) s at r) e is
 
--- a block from an equal state
-pub same_state : {S : Type 0} (kind : Kind S) (tokens : List TextToken) (depths : ℕ) (s s' : S) (at : ℕ) (r : Result (Behind S) ParseFault) → s ≡ s' → IsBlock kind tokens depths s at r → IsBlock kind tokens depths s' at r
-same_state kind tokens depths s s' at r is block = subst (λ (x : _). IsBlock kind tokens depths x at r) is block
-
 -- what stands first, where the own word does
 pub led_inside : {S : Type 0} (kind : Kind S) (tokens : List TextToken) (depths : ℕ) (leads : Bool) (s : S) (at : ℕ) (r : Result (Behind S) ParseFault) → leads ≡ true → 0 < depths → IsBlock kind tokens (depths - 1) s (at + 1) r → IsLed leads (IsOwn kind tokens depths) s at r
 led_inside kind tokens depths leads s at r is some block =

@@ -1,12 +1,9 @@
 -- Colours of patterns, and parameters at places that are equal.
-use Rattle.std.proofs.Common.{◌≡◌, ℕ, ℤ, List, [], ◌∷◌, length, get_or, ap, Result, Ok, refl, subst}
-use Rattle.scene_lexer.specs.declared.token.Place.{Place}
+use Rattle.std.proofs.Common.{◌≡◌, ℕ, ℤ, List, ap, Result, Ok, subst}
 use Rattle.scene_lexer.specs.declared.token.Token.{Token as TextToken}
 use Rattle.scene_expr.specs.declared.value.Settings.{Settings}
-use Rattle.scene_expr.specs.declared.value.Value.{Value}
 use Rattle.item_blocks.specs.declared.fault.ParseFault.{ParseFault}
 use Rattle.item_blocks.specs.Tokens.{Behind}
-use Rattle.item_blocks.specs.Parameters.{IsParameter}
 use Rattle.item_blocks.specs.Pigments.{IsTwo, IsThree}
 use Rattle.item_blocks.specs.declared.pigment.PigmentDraft.{PigmentDraft}
 use Rattle.item_blocks.specs.declared.texture.MaterialDraft.{MaterialDraft}
@@ -14,20 +11,12 @@ use Rattle.item_blocks.specs.declared.texture.TextureDraft.{TextureDraft}
 use Rattle.item_blocks.specs.Tokens.{behind}
 use Rattle.xform.specs.declared.transform.Xform.{Xform}
 
-pub at_same : (A : Type 0) (meaning : Value → Place → Result A ParseFault) (tokens : List TextToken) (settings : Settings) (at at' : ℕ) (r : Result (Behind A) ParseFault) → at ≡ at' → IsParameter A meaning tokens settings at r → IsParameter A meaning tokens settings at' r
-at_same A meaning tokens settings at at' r is p = subst (λ n. IsParameter A meaning tokens settings n r) is p
-
 pub two_of : (tokens : List TextToken) (settings : Settings) (a b a' b' : List ℤ) (at : ℕ) (r : Result (Behind (List (List ℤ))) ParseFault) → a ≡ a' → b ≡ b' → IsTwo tokens settings a b at r → IsTwo tokens settings a' b' at r
 two_of tokens settings a b a' b' at r p q is = subst (λ x. IsTwo tokens settings x b' at r) p (subst (λ x. IsTwo tokens settings a x at r) q is)
 
 pub three_of : (tokens : List TextToken) (settings : Settings) (a b c a' b' c' : List ℤ) (at : ℕ) (r : Result (Behind (List (List ℤ))) ParseFault) → a ≡ a' → b ≡ b' → c ≡ c' → IsThree tokens settings a b c at r → IsThree tokens settings a' b' c' at r
 three_of tokens settings a b c a' b' c' at r p q s is =
     subst (λ x. IsThree tokens settings x b' c' at r) p (subst (λ x. IsThree tokens settings a x c' at r) q (subst (λ x. IsThree tokens settings a b x at r) s is))
-
--- of a list of one thing, the first is the same whatever stands for none
-pub first_same : (xs : List Xform) (d e : Xform) → length xs ≡ 1 → get_or xs 0 d ≡ get_or xs 0 e
-first_same [] d e one = absurd (cc one)
-first_same (x ∷ xs) d e one = refl
 
 pub shifted_same : (draft : PigmentDraft) (x y : Xform) (next : ℕ) → x ≡ y → ◌≡◌ {A = Result (Behind PigmentDraft) ParseFault} (Ok (record { value = record draft { xform = x }; next = next })) (Ok (record { value = record draft { xform = y }; next = next }))
 shifted_same draft x y next is = ap (λ z. behind (Ok (record draft { xform = z })) next) is

@@ -1,5 +1,4 @@
-mod Readings
+mod MovedAll
 mod Moves
 mod Blocks
 mod Colours
-mod Lamps

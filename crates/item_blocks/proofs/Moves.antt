@@ -9,9 +9,9 @@ use Rattle.xform.specs.declared.transform.Xform.{Xform}
 use Rattle.item_blocks.specs.declared.fault.ParseFault.{ParseFault}
 use Rattle.item_blocks.specs.declared.steps.StepPart.{StepPart}
 use Rattle.item_blocks.specs.Tokens.{Behind, word_at}
-use Rattle.item_blocks.proofs.Readings.{same_value}
 use Rattle.item_blocks.specs.Parameters.{any_float_of, IsParameter}
 use Rattle.item_blocks.specs.Steps.{divided, step_part, IsNumbers, IsSteps, IsBraces, IsMoved, IsInside, IsMovedIn}
+use Rattle.item_blocks.specs.ReadingLaws.{same_value}
 
 -- a number more of a matrix
 pub numbers_further : (tokens : List TextToken) (settings : Settings) (count more : ℕ) (before : List ℤ) (at : ℕ) (number : ℤ) (end next : ℕ) (r : Result (Behind (List ℤ)) ParseFault) → count ≡ suc more → IsParameter ℤ any_float_of tokens settings at (Ok (record { value = number; next = end })) → Ok next ≡ divided more tokens end → IsNumbers tokens settings more (before ++ number ∷ []) next r → IsNumbers tokens settings count before at r

@@ -6,5 +6,11 @@ pub mod Blocks
 pub mod Finishes
 pub mod Pigments
 pub mod Textures
-pub mod Lamps
+pub mod Looks
+pub mod Made
+pub mod Sound
+pub mod SoundLaws
+pub mod SoundBlocks
+pub mod MadeLaws
 pub mod OneBlock
+pub mod ReadingLaws

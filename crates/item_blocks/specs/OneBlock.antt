@@ -13,9 +13,10 @@ use Rattle.scene_expr.specs.Then.{IsThen, IsOne, one_is, then_fault, then_found,
 use Rattle.scene_model.specs.declared.texture.Finish.{Finish}
 use Rattle.item_blocks.specs.declared.fault.ParseFault.{ParseFault}
 use Rattle.item_blocks.specs.declared.fault.Wanted.{Wanted}
-use Rattle.item_blocks.specs.declared.pigment.Beginning.{Beginning}
+use Rattle.item_blocks.specs.declared.look.LookPart.{LookPart}
+use Rattle.item_blocks.specs.declared.pigment_parts.Beginning.{Beginning}
 use Rattle.item_blocks.specs.declared.pigment.PigmentDraft.{PigmentDraft}
-use Rattle.item_blocks.specs.declared.pigment.PigmentPart.{PigmentPart}
+use Rattle.item_blocks.specs.declared.pigment_parts.PigmentPart.{PigmentPart}
 use Rattle.item_blocks.specs.declared.steps.StepPart.{StepPart}
 use Rattle.item_blocks.specs.declared.texture.Interior.{Interior}
 use Rattle.item_blocks.specs.declared.texture.MaterialPart.{MaterialPart}
@@ -30,6 +31,7 @@ use Rattle.item_blocks.specs.Steps.{Moving, IsNumbers, IsStep, IsMoved, IsInside
 use Rattle.item_blocks.specs.Finishes.{finish_with, IsValued, IsFinishPart, finish_kind}
 use Rattle.item_blocks.specs.Pigments.{ascending_of, pigment_with, IsEntry, map_kind, IsColourElse, IsTwo, IsThree, IsPattern, IsPainted, IsPigmentPart, pigment_kind}
 use Rattle.item_blocks.specs.Textures.{IsShifted, IsTexturePart, texture_kind, interior_with, IsInteriorPart, interior_kind, IsMaterialPart, material_kind}
+use Rattle.item_blocks.specs.Looks.{IsLook}
 
 -- what comes to one outcome at most from each state and token on
 abbrev pub IsOneStatement : {S : Type 0} → Statement S → Type 0
@@ -193,3 +195,12 @@ module _ (tokens : List Token) (set : Settings) where
 
   pub one_material : (depths : ℕ) → IsOneStatement (IsBlock (material_kind tokens set) tokens depths)
   one_material = one_block (material_kind tokens set) tokens (λ depths led material at. one_is _) (λ depths material at. one_material_part depths _ material at)
+
+  -- ---- the looks of an object
+
+  pub one_look : (depths : ℕ) (part : LookPart) → IsOneStatement (IsLook tokens set depths part)
+  one_look depths LookPart.Pigment looks at = one_then (one_texture_part depths TexturePart.Pigment looks.texture at) (λ texture. one_is _)
+  one_look depths LookPart.Finish looks at = one_then (one_texture_part depths TexturePart.Finish looks.texture at) (λ texture. one_is _)
+  one_look depths LookPart.Texture looks at = one_material_part depths MaterialPart.Texture looks at
+  one_look depths LookPart.Interior looks at = one_material_part depths MaterialPart.Interior looks at
+  one_look depths LookPart.Material looks at = one_then (one_material depths _ (at + 1)) (λ inner. one_is _)

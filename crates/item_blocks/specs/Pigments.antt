@@ -13,9 +13,9 @@ use Rattle.xform.specs.declared.transform.Xform.{Xform}
 use Rattle.xform.specs.Transforms.{start_of}
 use Rattle.item_blocks.specs.declared.fault.ParseFault.{ParseFault}
 use Rattle.item_blocks.specs.declared.fault.Wanted.{Wanted}
-use Rattle.item_blocks.specs.declared.pigment.Beginning.{Beginning}
-use Rattle.item_blocks.specs.declared.pigment.Paint.{Paint}
-use Rattle.item_blocks.specs.declared.pigment.PigmentPart.{PigmentPart}
+use Rattle.item_blocks.specs.declared.pigment_parts.Beginning.{Beginning}
+use Rattle.item_blocks.specs.declared.patterns.Paint.{Paint}
+use Rattle.item_blocks.specs.declared.pigment_parts.PigmentPart.{PigmentPart}
 use Rattle.item_blocks.specs.declared.pigment.PigmentDraft.{PigmentDraft}
 use Rattle.item_blocks.specs.declared.words.BlockWord.{BlockWord}
 use Rattle.item_blocks.specs.declared.words.PatternWord.{PatternWord}

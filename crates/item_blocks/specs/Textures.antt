@@ -10,7 +10,7 @@ use Rattle.xform.specs.declared.transform.Xform.{Xform}
 use Rattle.item_blocks.specs.declared.fault.ParseFault.{ParseFault}
 use Rattle.item_blocks.specs.declared.fault.Wanted.{Wanted}
 use Rattle.item_blocks.specs.declared.pigment.PigmentDraft.{PigmentDraft}
-use Rattle.item_blocks.specs.declared.pigment.PigmentPart.{PigmentPart}
+use Rattle.item_blocks.specs.declared.pigment_parts.PigmentPart.{PigmentPart}
 use Rattle.item_blocks.specs.declared.texture.Interior.{Interior}
 use Rattle.item_blocks.specs.declared.texture.MaterialDraft.{MaterialDraft}
 use Rattle.item_blocks.specs.declared.texture.MaterialPart.{MaterialPart}

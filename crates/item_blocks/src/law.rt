@@ -7,9 +7,11 @@ ghost use Rattle.item_blocks.specs.Steps.{IsMovedIn};
 ghost use Rattle.item_blocks.specs.Finishes.{finish_kind};
 ghost use Rattle.item_blocks.specs.Pigments.{pigment_kind};
 ghost use Rattle.item_blocks.specs.Textures.{texture_kind, interior_kind, material_kind};
+ghost use Rattle.item_blocks.specs.declared.look.LookPart.{LookPart};
+ghost use Rattle.item_blocks.specs.Looks.{IsLook};
 ghost use Rattle.item_blocks.specs.OneBlock.{IsOneStatement};
 
-/// From a state and a token on, steps and each kind of block come to one outcome at most: what they
+/// From a state and a token on, steps, each kind of block and each look come to one outcome at most: what they
 /// leave and where they end, or a fault.
 pub fn one_outcome()
     ensures moved { (tokens : List Token) (set : Settings) (depths : ℕ) → IsOneStatement (IsMovedIn tokens set depths) }
@@ -18,4 +20,5 @@ pub fn one_outcome()
     ensures texture { (tokens : List Token) (set : Settings) (depths : ℕ) → IsOneStatement (IsBlock (texture_kind tokens set) tokens depths) }
     ensures interior { (tokens : List Token) (set : Settings) (depths : ℕ) → IsOneStatement (IsBlock (interior_kind tokens set) tokens depths) }
     ensures material { (tokens : List Token) (set : Settings) (depths : ℕ) → IsOneStatement (IsBlock (material_kind tokens set) tokens depths) }
+    ensures look { (tokens : List Token) (set : Settings) (depths : ℕ) (part : LookPart) → IsOneStatement (IsLook tokens set depths part) }
 {}

@@ -276,3 +276,39 @@ pub fn colour(
     let (value, next) = expression(alloc, tokens, set, at)?;
     Ok((colour_of(value, place_at(tokens, at))?, next))
 }
+
+/// A float from a least to a greatest raw number, and the token behind it.
+pub fn float_between(
+    alloc: Global,
+    tokens: &[Token],
+    set: &Settings,
+    low: i64,
+    high: i64,
+    at: usize,
+) -> Result<(Fix, usize), ParseFault>
+    requires within { at ≤ length tokens.now }
+    requires whole { AreWhole set.now }
+    ensures found { IfOk result (λ found. IsParameter ℤ (float_of low high) tokens.now set.now at (Ok (record { value = found.0; next = found.1 }))) }
+    ensures fault { IfErr result (λ f. f ≢ NoMemory → IsParameter ℤ (float_of low high) tokens.now set.now at (Err f)) }
+    ensures within { IfOk result (λ found. (at ≤ found.1) × (found.1 ≤ length tokens.now)) }
+{
+    let (value, next) = expression(alloc, tokens, set, at)?;
+    Ok((float_of(low, high, value, place_at(tokens, at))?, next))
+}
+
+/// A point, whose coordinates are at most 4096 units in size, and the token behind it.
+pub fn point(
+    alloc: Global,
+    tokens: &[Token],
+    set: &Settings,
+    at: usize,
+) -> Result<(V3, usize), ParseFault>
+    requires within { at ≤ length tokens.now }
+    requires whole { AreWhole set.now }
+    ensures found { IfOk result (λ found. IsParameter V3 point_of tokens.now set.now at (Ok (record { value = found.0; next = found.1 }))) }
+    ensures fault { IfErr result (λ f. f ≢ NoMemory → IsParameter V3 point_of tokens.now set.now at (Err f)) }
+    ensures within { IfOk result (λ found. (at ≤ found.1) × (found.1 ≤ length tokens.now)) }
+{
+    let (value, next) = expression(alloc, tokens, set, at)?;
+    Ok((point_of(value, place_at(tokens, at))?, next))
+}

@@ -1,9 +1,17 @@
 // Materials with what is given in them, or their first fault, worked out by hand from the rules.
-use crate::{MaterialDraft, Paint, ParseFault, PigmentDraft, braced, no_material};
+ghost use Rattle.scene_expr.specs.Values.{AreWhole};
+
+mod edges;
+mod made;
+
+use crate::{
+    MaterialDraft, Paint, ParseFault, PigmentDraft, TextureDraft, braced, ior_of, look_part,
+    no_material, take_look, word_at,
+};
 use fix_math::Fix;
 use scene_expr::Settings;
-use scene_lexer::lex;
-use scene_model::{Finish, Rgbft};
+use scene_lexer::{Token, lex};
+use scene_model::{Entry, Finish, Pattern, Rgbft, Texture};
 use std::alloc::{AllocError, Global};
 use std::process::Abort;
 use std::test::Fail;
@@ -111,15 +119,10 @@ fn fault_shown(alloc: Global, fault: &ParseFault) -> Result<String, AllocError> 
     }
 }
 
-/// What comes of a text that is a material from its brace on.
-fn outcome(alloc: Global, text: &[u8]) -> Result<String, AllocError> {
-    if text.len() > 20_000 {
-        return String::from_str(alloc, "too long for these tables");
-    }
-    let Ok(tokens) = lex(alloc, 0, text) else {
-        return String::from_str(alloc, "no tokens");
-    };
-    let set = Settings {
+fn settings() -> Settings
+    ensures { AreWhole result }
+{
+    Settings {
         clock: Fix(0),
         initial_clock: Fix(0),
         final_clock: Fix(65536),
@@ -128,9 +131,19 @@ fn outcome(alloc: Global, text: &[u8]) -> Result<String, AllocError> {
         final_frame: 1,
         image_width: 320,
         image_height: 240,
+    }
+}
+
+/// What comes of a text that is a material from its brace on.
+fn outcome(alloc: Global, text: &[u8]) -> Result<String, AllocError> {
+    if text.len() > 20_000 {
+        return String::from_str(alloc, "too long for these tables");
+    }
+    let Ok(tokens) = lex(alloc, 0, text) else {
+        return String::from_str(alloc, "no tokens");
     };
     let mut material = no_material();
-    match braced(alloc, tokens.as_slice(), &set, 64, 0, &mut material) {
+    match braced(alloc, tokens.as_slice(), &settings(), 64, 0, &mut material) {
         Ok(_next) => material_shown(alloc, &material),
         Err(fault) => fault_shown(alloc, &fault),
     }
@@ -295,5 +308,142 @@ fn braces_have_a_limit(rt: HostRuntime) -> Result<(), Fail> {
     text.push_str("{ ")?;
     let deeper = outcome(alloc, text.as_str().as_bytes())?;
     assert_eq!(rt; deeper.as_str(), "limit 8 @640");
+    Ok(())
+}
+
+// ---- looks, and textures that are made of them
+
+fn entries_shown(alloc: Global, entries: &[Entry]) -> Result<String, AllocError> {
+    let mut shown = String::new(alloc);
+    for entry in entries {
+        let at = entry.at.raw();
+        let colour = colour_shown(alloc, &entry.colour)?;
+        let colour = colour.as_str();
+        let part = format!(in alloc; "[{at} {colour}]")?;
+        shown.push_str(part.as_str())?;
+    }
+    Ok(shown)
+}
+
+fn brick_shown(
+    alloc: Global,
+    mortar: &Rgbft,
+    brick: &Rgbft,
+    sizes: (i64, i64, i64, i64),
+) -> Result<String, AllocError> {
+    let pair = pair_shown(alloc, "brick", &[*mortar, *brick])?;
+    let pair = pair.as_str();
+    let (x, y, z, width) = sizes;
+    format!(in alloc; "{pair} {x}/{y}/{z} {width}")
+}
+
+fn pattern_shown(alloc: Global, pattern: &Pattern) -> Result<String, AllocError> {
+    match pattern {
+        Pattern::Plain(colour) => {
+            let colour = colour_shown(alloc, colour)?;
+            let colour = colour.as_str();
+            format!(in alloc; "plain {colour}")
+        }
+        Pattern::Checker(pair) => pair_shown(alloc, "checker", pair),
+        Pattern::Brick {
+            mortar,
+            brick,
+            size,
+            width,
+        } => {
+            let sizes = (size.x.raw(), size.y.raw(), size.z.raw(), width.raw());
+            brick_shown(alloc, mortar, brick, sizes)
+        }
+        Pattern::Hexagon(three) => {
+            let front = pair_shown(alloc, "hexagon", &[three[0], three[1]])?;
+            let front = front.as_str();
+            let third = colour_shown(alloc, &three[2])?;
+            let third = third.as_str();
+            format!(in alloc; "{front} {third}")
+        }
+        Pattern::Gradient { axis, map } => {
+            let x = axis.x.raw();
+            let y = axis.y.raw();
+            let z = axis.z.raw();
+            let map = entries_shown(alloc, map.as_slice())?;
+            let map = map.as_str();
+            format!(in alloc; "gradient {x}/{y}/{z} {map}")
+        }
+    }
+}
+
+fn texture_shown(alloc: Global, texture: &Texture, ior: i64) -> Result<String, AllocError> {
+    let pattern = pattern_shown(alloc, &texture.pigment.pattern)?;
+    let pattern = pattern.as_str();
+    let anchor = texture.pigment.xform.anchor.x.raw();
+    let stretch = texture.pigment.xform.m[0][0];
+    let finish = finish_shown(alloc, &texture.finish)?;
+    let finish = finish.as_str();
+    format!(in alloc; "{pattern} at {anchor} by {stretch}; {finish}; {ior}")
+}
+
+/// The looks of a list of tokens, one behind the other.
+fn looks(alloc: Global, tokens: &[Token], set: &Settings) -> Result<MaterialDraft, ParseFault>
+    requires { AreWhole set.now }
+{
+    let mut looks = no_material();
+    let mut at = 0;
+    for _ in 0..tokens.len() {
+        if at < tokens.len() {
+            if let Some(part) = look_part(word_at(tokens, at)) {
+                at = take_look(alloc, tokens, set, 64, part, at, &mut looks)?;
+            }
+        }
+    }
+    Ok(looks)
+}
+
+fn looks_of(alloc: Global, text: &[u8]) -> Result<MaterialDraft, ParseFault> {
+    if text.len() > 20_000 {
+        return Err(ParseFault::NoMemory);
+    }
+    let Ok(tokens) = lex(alloc, 0, text) else {
+        return Err(ParseFault::NoMemory);
+    };
+    looks(alloc, tokens.as_slice(), &settings())
+}
+
+fn made_shown(
+    alloc: Global,
+    own: MaterialDraft,
+    default: &TextureDraft,
+) -> Result<String, AllocError> {
+    let MaterialDraft { texture, interior } = own;
+    let ior = ior_of(interior).raw();
+    match texture.made(alloc, default) {
+        Ok(texture) => texture_shown(alloc, &texture, ior),
+        Err(fault) => fault_shown(alloc, &fault),
+    }
+}
+
+fn made_outcome(alloc: Global, default: &[u8], own: &[u8]) -> Result<String, AllocError> {
+    let default = match looks_of(alloc, default) {
+        Ok(looks) => looks,
+        Err(fault) => return fault_shown(alloc, &fault),
+    };
+    match looks_of(alloc, own) {
+        Ok(looks) => made_shown(alloc, looks, &default.texture),
+        Err(fault) => fault_shown(alloc, &fault),
+    }
+}
+
+#[test]
+fn textures_are_made_of_looks_and_a_default(rt: HostRuntime) -> Result<(), Fail> {
+    for (default, own, want) in &made::MADE {
+        let found = made_outcome(rt.alloc(), default, own)?;
+        let own = str::from_utf8(own).unwrap_or("?");
+        assert_eq!(rt; found.as_str(), *want, "in {own}");
+    }
+    Ok(())
+}
+
+#[test]
+fn parameters_end_where_their_ranges_do(rt: HostRuntime) -> Result<(), Fail> {
+    agree(&rt, rt.alloc(), &edges::EDGES)?;
     Ok(())
 }

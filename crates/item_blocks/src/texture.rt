@@ -135,7 +135,7 @@ fn interior_with(value: Value, place: Place) -> Result<Interior, ParseFault>
 }
 
 /// A pigment, in place of the one before.
-fn take_pigment(
+pub fn take_pigment(
     alloc: Global,
     tokens: &[Token],
     set: &Settings,
@@ -156,7 +156,7 @@ fn take_pigment(
 }
 
 /// A finish, in place of the one before.
-fn take_finish(
+pub fn take_finish(
     alloc: Global,
     tokens: &[Token],
     set: &Settings,
@@ -285,7 +285,7 @@ fn take_ior(
 }
 
 /// A texture, whose parts are set.
-fn take_texture(
+pub fn take_texture(
     alloc: Global,
     tokens: &[Token],
     set: &Settings,
@@ -306,7 +306,7 @@ fn take_texture(
 }
 
 /// An interior, in place of the one before.
-fn take_interior(
+pub fn take_interior(
     alloc: Global,
     tokens: &[Token],
     set: &Settings,

@@ -89,11 +89,16 @@ pub enum FinishWord {
     Reflection,
 }
 
-/// A word inside a camera.
+/// A word of a camera that stands alone: the kind of its rays.
 #[derive(Clone, Copy)]
-pub enum CameraWord {
+pub enum CameraFlag {
     Perspective,
     Orthographic,
+}
+
+/// The word of a parameter of a camera.
+#[derive(Clone, Copy)]
+pub enum CameraParameter {
     Location,
     Direction,
     Right,
@@ -101,6 +106,13 @@ pub enum CameraWord {
     Sky,
     Angle,
     LookAt,
+}
+
+/// A word inside a camera.
+#[derive(Clone, Copy)]
+pub enum CameraWord {
+    Flag(CameraFlag),
+    Parameter(CameraParameter),
 }
 
 /// A word of a lamp that stands alone.
@@ -212,15 +224,42 @@ static WORDS: [(&[u8], Word); 72] = [
     (b"roughness", Word::Finish(FinishWord::Roughness)),
     (b"reflection", Word::Finish(FinishWord::Reflection)),
     (b"ior", Word::Ior),
-    (b"perspective", Word::Camera(CameraWord::Perspective)),
-    (b"orthographic", Word::Camera(CameraWord::Orthographic)),
-    (b"location", Word::Camera(CameraWord::Location)),
-    (b"direction", Word::Camera(CameraWord::Direction)),
-    (b"right", Word::Camera(CameraWord::Right)),
-    (b"up", Word::Camera(CameraWord::Up)),
-    (b"sky", Word::Camera(CameraWord::Sky)),
-    (b"angle", Word::Camera(CameraWord::Angle)),
-    (b"look_at", Word::Camera(CameraWord::LookAt)),
+    (
+        b"perspective",
+        Word::Camera(CameraWord::Flag(CameraFlag::Perspective)),
+    ),
+    (
+        b"orthographic",
+        Word::Camera(CameraWord::Flag(CameraFlag::Orthographic)),
+    ),
+    (
+        b"location",
+        Word::Camera(CameraWord::Parameter(CameraParameter::Location)),
+    ),
+    (
+        b"direction",
+        Word::Camera(CameraWord::Parameter(CameraParameter::Direction)),
+    ),
+    (
+        b"right",
+        Word::Camera(CameraWord::Parameter(CameraParameter::Right)),
+    ),
+    (
+        b"up",
+        Word::Camera(CameraWord::Parameter(CameraParameter::Up)),
+    ),
+    (
+        b"sky",
+        Word::Camera(CameraWord::Parameter(CameraParameter::Sky)),
+    ),
+    (
+        b"angle",
+        Word::Camera(CameraWord::Parameter(CameraParameter::Angle)),
+    ),
+    (
+        b"look_at",
+        Word::Camera(CameraWord::Parameter(CameraParameter::LookAt)),
+    ),
     (
         b"shadowless",
         Word::Lamp(LampWord::Flag(LampFlag::Shadowless)),

@@ -5,7 +5,7 @@ use Rattle.std.specs.Prelude.{nat_eq}
 use Rattle.scene_expr.specs.Heads.{sign_at}
 use Rattle.scene_expr.specs.Then.{IsThen}
 use Rattle.item_blocks.specs.Blocks.{IsStatements}
-use Rattle.item_blocks.proofs.Readings.{exit}
+use Rattle.item_blocks.specs.ReadingLaws.{exit}
 use Rattle.item_blocks.proofs.Blocks.{led_fault, first_fault, whole, ends_found, ends_lacking, led_inside}
 use Rattle.item_blocks.proofs.block.+blocks.Goals as goal
 

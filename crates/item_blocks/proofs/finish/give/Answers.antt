@@ -1,7 +1,7 @@
 use Rattle.std.proofs.Common.{sym}
 use Rattle.scene_model.specs.declared.texture.Finish.{Finish}
 use Rattle.item_blocks.specs.Finishes.{finish_with}
-use Rattle.item_blocks.proofs.Readings.{exit, parameter_fault, parameter_refused, parameter_found}
+use Rattle.item_blocks.specs.ReadingLaws.{exit, parameter_fault, parameter_refused, parameter_found}
 use Rattle.item_blocks.proofs.finish.give.Goals as goal
 
 pub returns-in_err-value-clause-fault : goal.returns-in_err-value-clause-fault

@@ -1,4 +1,4 @@
-use Rattle.item_blocks.specs.OneBlock.{one_moved, one_finish, one_pigment, one_texture, one_interior, one_material}
+use Rattle.item_blocks.specs.OneBlock.{one_moved, one_finish, one_pigment, one_texture, one_interior, one_material, one_look}
 use Rattle.item_blocks.proofs.law.one_outcome.Goals as goal
 
 pub returns-clause-moved : goal.returns-clause-moved
@@ -18,3 +18,6 @@ returns-clause-interior c = λ tokens set. one_interior tokens set
 
 pub returns-clause-material : goal.returns-clause-material
 returns-clause-material c = λ tokens set. one_material tokens set
+
+pub returns-clause-look : goal.returns-clause-look
+returns-clause-look c = λ tokens set. one_look tokens set

@@ -1,6 +1,6 @@
 use Rattle.std.proofs.Common.{sym, ℤ}
 use Rattle.item_blocks.specs.Parameters.{any_float_of}
-use Rattle.item_blocks.proofs.Readings.{exit, parameter_fault, parameter_refused, parameter_found}
+use Rattle.item_blocks.specs.ReadingLaws.{exit, parameter_fault, parameter_refused, parameter_found}
 use Rattle.item_blocks.proofs.parameters.any_float.Goals as goal
 
 pub returns-in_err-value-clause-fault : goal.returns-in_err-value-clause-fault

@@ -1,7 +1,7 @@
 use Rattle.std.proofs.Common.{sym}
 use Rattle.fix_math.specs.declared.fix.V3.{V3}
 use Rattle.item_blocks.specs.Parameters.{any_vector_of}
-use Rattle.item_blocks.proofs.Readings.{exit, parameter_fault, parameter_refused, parameter_found}
+use Rattle.item_blocks.specs.ReadingLaws.{exit, parameter_fault, parameter_refused, parameter_found}
 use Rattle.item_blocks.proofs.parameters.any_vector.Goals as goal
 
 pub returns-in_err-value-clause-fault : goal.returns-in_err-value-clause-fault

@@ -1,6 +1,6 @@
 use Rattle.scene_expr.specs.Then.{IsThen}
-use Rattle.item_blocks.proofs.Readings.{exit}
-use Rattle.item_blocks.proofs.Colours.{first_same, shifted_same}
+use Rattle.item_blocks.specs.ReadingLaws.{exit, first_same}
+use Rattle.item_blocks.proofs.Colours.{shifted_same}
 use Rattle.item_blocks.proofs.pigment.take_move.Goals as goal
 
 pub returns-in_err-next-clause-fault : goal.returns-in_err-next-clause-fault

@@ -1,7 +1,7 @@
 use Rattle.std.proofs.Common.{sym}
 use Rattle.item_blocks.specs.declared.pigment.PigmentDraft.{PigmentDraft}
 use Rattle.item_blocks.specs.Pigments.{pigment_with}
-use Rattle.item_blocks.proofs.Readings.{exit, parameter_fault, parameter_refused, parameter_found}
+use Rattle.item_blocks.specs.ReadingLaws.{exit, parameter_fault, parameter_refused, parameter_found}
 use Rattle.item_blocks.proofs.pigment.take_size.Goals as goal
 
 pub returns-in_err-value-clause-fault : goal.returns-in_err-value-clause-fault

@@ -3,7 +3,7 @@ use Rattle.std.specs.Prelude.{nat_eq}
 use Rattle.scene_expr.specs.Heads.{sign_at}
 use Rattle.scene_expr.specs.Then.{IsThen}
 use Rattle.item_blocks.specs.Blocks.{IsStatements}
-use Rattle.item_blocks.proofs.Readings.{exit}
+use Rattle.item_blocks.specs.ReadingLaws.{exit}
 use Rattle.item_blocks.proofs.Moves.{inside_is}
 use Rattle.item_blocks.proofs.steps.+steps.Goals as goal
 

@@ -1,5 +1,5 @@
 use Rattle.scene_expr.specs.Then.{IsThen}
-use Rattle.item_blocks.proofs.Readings.{exit, same_value}
+use Rattle.item_blocks.specs.ReadingLaws.{exit, same_value}
 use Rattle.item_blocks.proofs.steps.by_vector.Goals as goal
 
 pub returns-in_err-v-clause-fault : goal.returns-in_err-v-clause-fault

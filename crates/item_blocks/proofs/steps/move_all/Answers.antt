@@ -1,6 +1,6 @@
 use Rattle.std.proofs.Common.{◌∙◌, arith}
 use Rattle.std.proofs.Math.ListN.{length-set}
-use Rattle.item_blocks.proofs.Readings.{moved_further}
+use Rattle.item_blocks.proofs.MovedAll.{moved_further}
 use Rattle.item_blocks.proofs.steps.move_all.Goals as goal
 
 pub things-preserved : goal.things-preserved

@@ -1,7 +1,7 @@
 -- The things before are moved, and what comes of the others comes of all.
 use Rattle.std.proofs.Common.{◌≡◌, take, drop, length}
 use Rattle.item_blocks.specs.Steps.{all_moved}
-use Rattle.item_blocks.proofs.Readings.{joined}
+use Rattle.item_blocks.proofs.MovedAll.{joined}
 use Rattle.item_blocks.proofs.steps.move_all.Given as goal
 
 abbrev pub invariant-things : goal.invariant-things

@@ -1,6 +1,6 @@
 use Rattle.std.proofs.Common.{◌≡◌, ◌-◌, ◌+◌, suc, arith, ◌∙◌}
 use Rattle.std.proofs.Math.ListN.{length-set}
-use Rattle.item_blocks.proofs.Readings.{exit}
+use Rattle.item_blocks.specs.ReadingLaws.{exit}
 use Rattle.item_blocks.proofs.Moves.{numbers_further, numbers_fault, numbers_undivided, numbers_all, numbers_end}
 use Rattle.item_blocks.proofs.steps.numbers.Goals as goal
 

@@ -1,7 +1,7 @@
 use Rattle.std.proofs.Common.{ap, ◌∙◌, sym}
 use Rattle.scene_expr.specs.Then.{IsThen}
 use Rattle.item_blocks.specs.Steps.{moved_by}
-use Rattle.item_blocks.proofs.Readings.{exit, behind_value, behind_fault}
+use Rattle.item_blocks.specs.ReadingLaws.{exit, behind_value, behind_fault}
 use Rattle.item_blocks.proofs.steps.take_step.Goals as goal
 
 pub returns-in_err-step-clause-fault : goal.returns-in_err-step-clause-fault

@@ -1,6 +1,6 @@
 use Rattle.std.proofs.Common.{refl}
 use Rattle.scene_expr.specs.Then.{IsThen}
-use Rattle.item_blocks.proofs.Readings.{exit}
+use Rattle.item_blocks.specs.ReadingLaws.{exit}
 use Rattle.item_blocks.proofs.texture.shift_nothing.Goals as goal
 
 pub returns-in_err-next-clause-fault : goal.returns-in_err-next-clause-fault

@@ -1,8 +1,7 @@
 use Rattle.std.proofs.Common.{refl}
 use Rattle.scene_expr.specs.Then.{IsThen}
 use Rattle.item_blocks.specs.Finishes.{finish_kind}
-use Rattle.item_blocks.proofs.Readings.{exit}
-use Rattle.item_blocks.proofs.Blocks.{same_state}
+use Rattle.item_blocks.specs.ReadingLaws.{exit, same_state}
 use Rattle.item_blocks.proofs.texture.take_finish.Goals as goal
 
 pub returns-in_err-next-clause-fault : goal.returns-in_err-next-clause-fault

@@ -1,7 +1,6 @@
 use Rattle.scene_expr.specs.Then.{IsThen}
 use Rattle.item_blocks.specs.Textures.{texture_kind}
-use Rattle.item_blocks.proofs.Readings.{exit}
-use Rattle.item_blocks.proofs.Blocks.{same_state}
+use Rattle.item_blocks.specs.ReadingLaws.{exit, same_state}
 use Rattle.item_blocks.proofs.Colours.{set_same}
 use Rattle.item_blocks.proofs.texture.take_texture.Goals as goal
 

@@ -1,0 +1,12 @@
+use Rattle.std.proofs.Common.{refl}
+use Rattle.scene_expr.specs.Then.{IsThen}
+use Rattle.item_blocks.specs.Pigments.{blue, green, red}
+use Rattle.item_blocks.specs.ReadingLaws.{exit}
+use Rattle.item_blocks.proofs.Colours.{three_of}
+use Rattle.item_blocks.proofs.patterns.hexagon.Goals as goal
+
+pub returns-in_err-colours-clause-fault : goal.returns-in_err-colours-clause-fault
+returns-in_err-colours-clause-fault c = exit _ _ _ c.from_residual.ensures.1 (λ some. IsThen.fault _ (three_of c.args.tokens.now c.args.set.now c.blue.result c.green.result c.red.result blue green red c.args.at _ c.blue.ensures c.green.ensures c.red.ensures (c.in_err-colours.ensures.fault some)))
+
+pub returns-clause-found : goal.returns-clause-found
+returns-clause-found c = IsThen.found _ _ (three_of c.args.tokens.now c.args.set.now c.blue.result c.green.result c.red.result blue green red c.args.at _ c.blue.ensures c.green.ensures c.red.ensures c.in_ok-colours.ensures.found) refl
