@@ -1,0 +1,5 @@
+mod Lamps
+mod Cameras
+mod AngleLemmas
+mod Sizes
+mod Kept

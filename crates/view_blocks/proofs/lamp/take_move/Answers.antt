@@ -1,0 +1,11 @@
+use Rattle.scene_expr.specs.Then.{IsThen}
+use Rattle.item_blocks.specs.ReadingLaws.{exit, first_same}
+use Rattle.view_blocks.proofs.Lamps.{shifted_lamp}
+use Rattle.view_blocks.proofs.lamp.take_move.Goals as goal
+
+pub returns-in_err-next-clause-fault : goal.returns-in_err-next-clause-fault
+returns-in_err-next-clause-fault c = exit _ _ _ c.from_residual.ensures.1 (λ some. IsThen.fault _ (c.in_err-next.ensures.fault some))
+
+pub returns-clause-found : goal.returns-clause-found
+returns-clause-found c =
+    IsThen.found _ _ c.in_ok-next.ensures.found (shifted_lamp c.args.lamp.now _ _ _ (first_same c.moved.new.xforms _ _ c.moved.auto.xforms))
