@@ -1,0 +1,4 @@
+mod Sizes
+mod Ways
+mod Sound
+mod Made
