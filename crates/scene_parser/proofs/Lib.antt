@@ -1,0 +1,3 @@
+mod Skips
+mod Moves
+mod Modifies
