@@ -1,0 +1,4 @@
+pub mod Spaces
+pub mod Cells
+pub mod Maps
+pub mod Pigments
