@@ -1,0 +1,4 @@
+pub mod Casts
+pub mod Shares
+pub mod Cosines
+pub mod Smooth

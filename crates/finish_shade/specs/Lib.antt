@@ -1,0 +1,4 @@
+pub mod Amounts
+pub mod Lamps
+pub mod Directions
+pub mod Finishes
