@@ -1,0 +1,18 @@
+use Rattle.std.proofs.Common.{◌^◌, FitsSigned, arith, to_z-of_z}
+use Rattle.std.specs.Int.{w64}
+use Rattle.frame_trace.proofs.Shares.{share_small}
+use Rattle.frame_trace.proofs.pixel_rays.near_share.Goals as goal
+
+pub invariant_of-result : goal.invariant_of-result
+invariant_of-result c =
+    let place : FitsSigned w64 c.args.place = c.ranges.place in
+    let result : FitsSigned w64 c.near_quotient.result = record { sfits = c.near_quotient.type_inv } in
+    let is = simp to_z-of_z at c.near_quotient.ensures in
+    rw (to_z-of_z result, is) (omega (arith, share_small c.args.side c.args.place c.args.parts c.requires.side c.requires.place))
+
+pub returns-clause-small : goal.returns-clause-small
+returns-clause-small c =
+    let place : FitsSigned w64 c.args.place = c.ranges.place in
+    let result : FitsSigned w64 c.near_quotient.result = record { sfits = c.near_quotient.type_inv } in
+    let is = simp to_z-of_z at c.near_quotient.ensures in
+    rw (to_z-of_z result, is) (share_small c.args.side c.args.place c.args.parts c.requires.side c.requires.place)
