@@ -1,0 +1,137 @@
+// Leaves and objects of a scene, ready to be met by rays.
+ghost use Rattle.std.specs.Prelude.{◌≡◌, ℕ, Some, true, IfOk};
+ghost use Rattle.scene_model.specs.Solids.{IsLeaf};
+ghost use Rattle.scene_model.specs.declared.shape.Leaf.{Leaf};
+ghost use Rattle.scene_model.specs.declared.scene.Object.{Object};
+ghost use Rattle.shapes.specs.Faces.{all_hold, faces_of};
+ghost use Rattle.shapes.specs.Rays.{IsInWorld, Position, position_of};
+ghost use Rattle.shapes.specs.Solids.{is_uncapped, solid_faces, solid_side};
+ghost use Rattle.csg_hits.specs.Rows.{IsRowOf};
+ghost use Rattle.csg_hits.specs.Sides.{AreAlike, differ};
+ghost use Rattle.csg_hits.specs.Surfaces.{counts, face_of, first_holds, solid_holds};
+
+use crate::row::Row;
+use scene_model::{Leaf, Object, Shape};
+use shapes::{Path, Point, Solid, solid};
+use std::alloc::{AllocError, Global};
+use std::snapshot::Snapshot;
+
+/// A leaf with its solid.
+#[derive(Drop)]
+pub struct ReadyLeaf {
+    solid: Solid,
+    uncapped: bool,
+    inverse: bool,
+    pub negated: bool,
+    /// The leaf of the scene.
+    pub leaf: Snapshot<Leaf>,
+    ghost faces: { (p : Position) → solid_faces solid p ≡ faces_of leaf.value p },
+    ghost side: { uncapped ≡ true → (p : Position) → all_hold (solid_side solid p) ≡ first_holds (faces_of leaf.value p) },
+    ghost is_uncapped: { uncapped ≡ is_uncapped leaf.value.prim },
+    ghost is_inverse: { inverse ≡ leaf.value.inverse },
+    ghost is_negated: { negated ≡ leaf.value.negated },
+}
+
+/// An object with a shape of its own.
+#[derive(Drop)]
+pub struct ReadyObject {
+    pub shape: Shape,
+    pub no_shadow: bool,
+    /// The object of the scene.
+    pub object: Snapshot<Object>,
+    ghost alike: { AreAlike shape object.value.shape },
+    ghost shadow: { no_shadow ≡ object.value.no_shadow },
+}
+
+/// A shape like another.
+fn copied(alloc: Global, shape: &Shape) -> Result<Shape, AllocError>
+    ensures { IfOk result (λ copy. AreAlike copy shape.now) }
+{
+    match shape {
+        Shape::Leaf(leaf) => Ok(Shape::Leaf(*leaf)),
+        Shape::Group { op, parts, inverse } => {
+            let mut copies = Vec::with_capacity(alloc, parts.len())?;
+            for part in parts {
+                let copy = copied(alloc, part)?;
+                copies.push(copy)?;
+            }
+            Ok(Shape::Group {
+                op: *op,
+                parts: copies,
+                inverse: *inverse,
+            })
+        }
+    }
+}
+
+impl ReadyObject {
+    /// Whether the object counts: all do, but in a shadow ray those without shadow.
+    #[inline]
+    pub fn counts(&self, shadow: bool) -> bool
+        ensures { result ≡ counts shadow self.now.object.value.no_shadow }
+    {
+        !(shadow && self.no_shadow)
+    }
+
+    /// An object of a scene.
+    pub fn of(alloc: Global, object: &Object) -> Result<ReadyObject, AllocError>
+        ensures { IfOk result (λ ready. ready.object.value ≡ object.now) }
+    {
+        let shape = copied(alloc, &object.shape)?;
+        Ok(ReadyObject {
+            shape,
+            no_shadow: object.no_shadow,
+            object: Snapshot::of(object),
+        })
+    }
+}
+
+impl ReadyLeaf {
+    /// A leaf of a scene.
+    pub fn of(leaf: &Leaf) -> ReadyLeaf
+        requires { IsLeaf leaf.now }
+        ensures { result.leaf.value ≡ leaf.now }
+    {
+        let solid = solid(leaf);
+        ReadyLeaf {
+            solid,
+            uncapped: solid.is_open(),
+            inverse: leaf.inverse,
+            negated: leaf.negated,
+            leaf: Snapshot::of(leaf),
+        }
+    }
+
+    /// The numbers of a path at which the leaf holds.
+    #[inline]
+    pub fn row(&self, path: &Path) -> Row
+        ensures { IsRowOf self.now.leaf.value path.now.ray path.now.end result }
+    {
+        let inside = self.solid.stretches(path);
+        Row {
+            inside,
+            side: if self.uncapped {
+                Some(self.solid.side(path))
+            } else {
+                None
+            },
+            inverse: self.inverse,
+        }
+    }
+
+    /// The face at which the leaf's solid is entered or left between two points, and whether it is entered.
+    pub fn face_between(&self, before: &Point, here: &Point) -> (u8, bool)
+        requires before { IsInWorld (position_of before.now) }
+        requires here { IsInWorld (position_of here.now) }
+        requires crossed { differ (solid_holds self.now.leaf.value (position_of before.now))
+            (solid_holds self.now.leaf.value (position_of here.now)) ≡ true }
+        ensures face { Some result.0
+            ≡ face_of (Some self.now.leaf.value) (position_of before.now) (position_of here.now) }
+        ensures entered { result.1 ≡ solid_holds self.now.leaf.value (position_of here.now) }
+    {
+        match self.solid.failing_face(before) {
+            Some(face) => (face, true),
+            None => (self.solid.failing_face(here).unwrap_or(0), false),
+        }
+    }
+}

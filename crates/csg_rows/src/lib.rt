@@ -1,0 +1,11 @@
+//! What rays hit in scenes, against numbers that were worked out outside. There is nothing here but tests.
+#![tactic(auto)]
+
+#[cfg(test)]
+mod asked;
+#[cfg(test)]
+mod known;
+#[cfg(test)]
+mod scenes;
+#[cfg(test)]
+mod singles;
