@@ -1,101 +1,304 @@
--- Each step's fault is an end of the frame.
-use Rattle.std.proofs.Common.{◌≡◌, ◌≢◌, ℕ, List, refl, sym, subst, Option, Some, Result, Ok, Err}
+-- How each step ends a frame, and how the report of it ends it.
+use Rattle.std.specs.Prelude.{IsSomeAnd, MatchOption, option_copied, option_map}
+use Rattle.std.proofs.Common.{◌≡◌, ◌≢◌, ◌⊎◌, ◌≤◌, ℕ, Bor, List, [], ◌++◌, inl, inr, refl, sym, ap, ◌∙◌, subst, Option, Some, None, Ok, Err}
+use Rattle.std.proofs.lemmas.List.{append-nil, append_assoc}
 use Rattle.scene_lexer.specs.declared.token.LexFault.{LexFault}
-use Rattle.scene_lexer.specs.declared.token.LexFault.TheVariants.{BadByte, OpenComment, OpenString, LongName, NumberRange}
-use Rattle.scene_lexer.specs.declared.token.Token.{Token as TextToken}
-use Rattle.scene_lexer.specs.Tokens.{tokens_of}
+use Rattle.scene_expr.specs.declared.value.ExprFault.{ExprFault}
 use Rattle.scene_expr.specs.declared.value.Settings.{Settings}
 use Rattle.image_out.specs.Files.{file_of}
 use Rattle.shelf.specs.declared.disk.HoldFail.{HoldFail}
 use Rattle.shelf.specs.Causes.{Rose}
 use Rattle.shelf.specs.Disk.{Contents, SameContents}
-use Rattle.povfix.specs.declared.outcome.Fault.{Fault}
-use Rattle.povfix.specs.declared.outcome.Fault.TheVariants.{Done, OptionFault, SceneFault, Limit, Absent, TextFault, ShelfFault, NoMemory}
-use Rattle.povfix.specs.declared.refusal.Refusal.{Refusal}
+use Rattle.shelf.specs.Stream.{with_bytes, GrewByLess}
 use Rattle.directive_machine.specs.declared.texts.Text.{Text}
-use Rattle.povfix.specs.Conversions.{hold_fault, lex_fault, parse_fault}
-use Rattle.povfix.specs.Frames.{Frame, scene_text}
+use Rattle.directive_machine.specs.declared.stop.Stop.{Stop}
+use Rattle.directive_machine.specs.Course.{Halted}
+use Rattle.directive_machine.specs.Expansions.{Handed, ComesTo, StopsAt}
+use Rattle.options.specs.declared.plan.Plan.{Plan}
+use Rattle.options.specs.Frames.{settings_of}
+use Rattle.povfix.specs.declared.ending.Ending.{Ending}
+use Rattle.povfix.specs.declared.ending.Report.{Report}
+use Rattle.povfix.specs.declared.expansion.Expansion.{Expansion}
+use Rattle.povfix.specs.declared.outcome.Fault.{Fault}
+use Rattle.povfix.specs.declared.outcome.Fault.TheVariants.{Done, OptionFault, SceneFault, Limit, Absent, TextFault, ShelfFault, MessageFault, NoMemory}
+use Rattle.povfix.specs.declared.refusal.Refusal.{Refusal}
+use Rattle.povfix.specs.Conversions.{error_text, hold_fault, parse_fault, stop_fault}
+use Rattle.povfix.specs.Frames.{Frame, frame_of, generated_for, IsExpanded, IsMeaning, IsStopped}
 use Rattle.povfix.specs.Grammar.{IsScene}
-use Rattle.povfix.specs.Scenes.{Scene}
+use Rattle.povfix.specs.Lines.{line_left, line_of, messages_left, name_under, text_number, IsPlaced, Says}
 use Rattle.povfix.specs.Picture.{IsPicture, Shows, pixel_shows}
-use Rattle.povfix.specs.Steps.{IsEnd, IsFrameCaused, IsLong, IsUnread}
-use Rattle.directive_machine.specs.Texts.{IsWithinLimit}
-use Rattle.povfix.specs.Verdict.{text_start, FrameVerdict, TextVerdict}
+use Rattle.povfix.specs.Said.{IsFrameSaid}
+use Rattle.povfix.specs.Scenes.{Scene}
+use Rattle.povfix.specs.Steps.{IsCarried, IsCut, IsEnd, IsLeft, IsUnparsed}
+use Rattle.povfix.specs.Verdict.{FrameVerdict, done}
+use Rattle.povfix.proofs.Saying.{rose_to, says_behind, says_nothing, says_same, with_nothing}
 
--- a fault of words and texts alone, or want of memory
+-- ---- what the directives come to, under other spellings of what they are given
+
+module _ (plan : Plan) (number : ℕ) (set : Settings) (libraries : List (List ℕ)) (name : List ℕ) (bytes : Option (List ℕ)) (h : List Text) (is_set : set ≡ settings_of plan number) (is_libraries : libraries ≡ plan.libraries) (is_name : name ≡ plan.input) (is_bytes : bytes ≡ generated_for plan.generate) where
+  pub expanded_at : (found : Handed) → ComesTo (record { settings = set; libraries = libraries; held = h }) name bytes found → IsExpanded (frame_of plan number) h found
+  expanded_at found reached =
+      subst (λ b. ComesTo (record { settings = settings_of plan number; libraries = plan.libraries; held = h }) plan.input b found) is_bytes
+      (subst (λ n. ComesTo (record { settings = settings_of plan number; libraries = plan.libraries; held = h }) n bytes found) is_name
+      (subst (λ l. ComesTo (record { settings = settings_of plan number; libraries = l; held = h }) name bytes found) is_libraries
+      (subst (λ s. ComesTo (record { settings = s; libraries = libraries; held = h }) name bytes found) is_set reached)))
+
+  pub stopped_at : (f : Halted) → StopsAt (record { settings = set; libraries = libraries; held = h }) name bytes f → IsStopped (frame_of plan number) h f
+  stopped_at f stops =
+      subst (λ b. StopsAt (record { settings = settings_of plan number; libraries = plan.libraries; held = h }) plan.input b f) is_bytes
+      (subst (λ n. StopsAt (record { settings = settings_of plan number; libraries = plan.libraries; held = h }) n bytes f) is_name
+      (subst (λ l. StopsAt (record { settings = settings_of plan number; libraries = l; held = h }) name bytes f) is_libraries
+      (subst (λ s. StopsAt (record { settings = s; libraries = libraries; held = h }) name bytes f) is_set stops)))
+
+pub given_text : {V : Type 0} (items : V → List ℕ) (text : Option V) (lent : Option (Bor (List ℕ))) (Q : V → Bor (List ℕ) → Type 0) → ((v : V) (y : Bor (List ℕ)) → Q v y → y.now ≡ items v) → MatchOption text (lent ≡ None) (λ v. IsSomeAnd lent (Q v)) → option_copied lent ≡ option_map items text
+given_text items None lent Q shows is = ap option_copied is
+given_text items (Some v) None Q shows is = absurd is
+given_text items (Some v) (Some y) Q shows is = ap (λ b. Some b) (shows v y is)
+
+-- ---- before the report
+
+-- a fault of words and texts alone
 abbrev IsRefusal : Fault → Type 0
 IsRefusal (SceneFault letter kind place) = Unit {0}
 IsRefusal (Limit which place) = Unit {0}
 IsRefusal (Absent name) = Unit {0}
-IsRefusal NoMemory = Unit {0}
 IsRefusal fault = ⊥
 
-module _ (frame : Frame) (told : Option (List Text)) (texts_before texts_now shelf_before shelf_now : ℕ) (holds images : Contents) where
-  -- what a text's refusal leaves: nothing is touched
-  abbrev Ends : Fault → Type 0
-  Ends = IsEnd frame told texts_before texts_now shelf_before shelf_now holds holds images images
+module _ (frame : Frame) (told : Option (List Text)) (tb tn shelf kb kn : ℕ) (before now : Option (List ℕ)) where
+  abbrev Cut : Ending → Type 0
+  Cut ending = IsCut frame told tb tn shelf shelf kb kn before now ending
 
-  same : (contents : Contents) → SameContents contents contents
-  same contents n c held = held
+  -- what is written, and what is left to say, is what the frame comes to
+  abbrev Told : Fault → Option Report → Type 0
+  Told fault report = (texts : List Text) → told ≡ Some texts → (messages : List ℕ) × (now ≡ with_bytes before messages) × FrameVerdict frame texts (record { fault = fault; messages = messages ++ messages_left report; line = line_left report fault })
 
-  refused : (fault : Fault) → IsRefusal fault → ((texts : List Text) → told ≡ Some texts → IsFrameCaused frame texts fault) → Ends fault
-  refused (SceneFault letter kind place) refusal caused = record { ending = tt; caused = caused; text_fault = λ e. cc; shelf_fault = λ e. cc; kept = λ e. same holds; crash_kept = λ e. same images }
-  refused (Limit which place) refusal caused = record { ending = tt; caused = caused; text_fault = λ e. cc; shelf_fault = λ e. cc; kept = λ e. same holds; crash_kept = λ e. same images }
-  refused (Absent name) refusal caused = record { ending = tt; caused = caused; text_fault = λ e. cc; shelf_fault = λ e. cc; kept = λ e. same holds; crash_kept = λ e. same images }
-  refused NoMemory refusal caused = record { ending = tt; caused = caused; text_fault = λ e. cc; shelf_fault = λ e. cc; kept = λ e. same holds; crash_kept = λ e. same images }
-  refused Done refusal caused = absurd refusal
-  refused (OptionFault kind place) refusal caused = absurd refusal
-  refused TextFault refusal caused = absurd refusal
-  refused ShelfFault refusal caused = absurd refusal
+  refused_cut : (fault : Fault) (report : Option Report) → IsRefusal fault → Told fault report → Cut (record { fault = fault; report = report })
+  refused_cut (SceneFault letter kind place) report refusal left = record { ends = tt; left = left; text_fault = λ e. cc; shelf_fault = λ e. cc; message_fault = λ e. cc }
+  refused_cut (Limit which place) report refusal left = record { ends = tt; left = left; text_fault = λ e. cc; shelf_fault = λ e. cc; message_fault = λ e. cc }
+  refused_cut (Absent name) report refusal left = record { ends = tt; left = left; text_fault = λ e. cc; shelf_fault = λ e. cc; message_fault = λ e. cc }
+  refused_cut Done report refusal left = absurd refusal
+  refused_cut (OptionFault kind place) report refusal left = absurd refusal
+  refused_cut TextFault report refusal left = absurd refusal
+  refused_cut ShelfFault report refusal left = absurd refusal
+  refused_cut MessageFault report refusal left = absurd refusal
+  refused_cut NoMemory report refusal left = absurd refusal
 
-  pub no_memory_ends : Ends NoMemory
-  no_memory_ends = refused NoMemory tt (λ texts held. tt)
+  abbrev Written : Type 0
+  Written = (texts : List Text) → told ≡ Some texts → (messages : List ℕ) × (now ≡ with_bytes before messages)
 
-  pub unread_ends : (fault : Fault) → IsUnread frame.generate frame.input told texts_before texts_now fault → Ends fault
-  unread_ends fault (IsUnread.absent is none) = subst Ends (sym is) (refused (Absent frame.input) tt (λ texts held. FrameVerdict.absent (none texts held) refl))
-  unread_ends fault (IsUnread.failed is rose) = subst Ends (sym is) (record { ending = tt; caused = λ texts held. tt; text_fault = λ e. rose; shelf_fault = λ e. cc; kept = λ e. same holds; crash_kept = λ e. same images })
-  unread_ends fault (IsUnread.no_memory is) = subst Ends (sym is) no_memory_ends
+  pub no_memory_cut : (report : Option Report) → Written → Cut (record { fault = NoMemory; report = report })
+  no_memory_cut report written = record { ends = tt; left = written; text_fault = λ e. cc; shelf_fault = λ e. cc; message_fault = λ e. cc }
 
-  module _ (text : List ℕ) (found : (texts : List Text) → told ≡ Some texts → scene_text frame.generate frame.input texts ≡ Some text) where
-    pub long_ends : (fault : Fault) → IsLong frame.input text fault → Ends fault
-    long_ends fault long = subst Ends (sym long.answer) (refused (Limit 4 text_start) tt (λ texts held. FrameVerdict.found text (found texts held) (TextVerdict.long long.long refl)))
+  text_cut : (report : Option Report) → Written → Rose tb tn → Cut (record { fault = TextFault; report = report })
+  text_cut report written rose = record { ends = tt; left = written; text_fault = λ e. rose; shelf_fault = λ e. cc; message_fault = λ e. cc }
 
-    pub lexed_ends : (fault : LexFault) → IsWithinLimit frame.input text → (fault ≢ LexFault.NoMemory → tokens_of 0 text ≡ Err fault) → Ends (lex_fault fault)
-    lexed_ends (BadByte place) short why = refused _ tt (λ texts held. FrameVerdict.found text (found texts held) (TextVerdict.no_tokens (BadByte place) short (why (λ e. cc)) refl))
-    lexed_ends (OpenComment place) short why = refused _ tt (λ texts held. FrameVerdict.found text (found texts held) (TextVerdict.no_tokens (OpenComment place) short (why (λ e. cc)) refl))
-    lexed_ends (OpenString place) short why = refused _ tt (λ texts held. FrameVerdict.found text (found texts held) (TextVerdict.no_tokens (OpenString place) short (why (λ e. cc)) refl))
-    lexed_ends (LongName place) short why = refused _ tt (λ texts held. FrameVerdict.found text (found texts held) (TextVerdict.no_tokens (LongName place) short (why (λ e. cc)) refl))
-    lexed_ends (NumberRange place) short why = refused _ tt (λ texts held. FrameVerdict.found text (found texts held) (TextVerdict.no_tokens (NumberRange place) short (why (λ e. cc)) refl))
-    lexed_ends LexFault.NoMemory short why = no_memory_ends
+  -- the messages of a frame whose directives are carried out can't be written
+  unwritten : ((texts : List Text) → told ≡ Some texts → (found : Handed) × IsExpanded frame texts found × GrewByLess before now found.messages) → Rose kb kn → Cut (record { fault = MessageFault; report = None })
+  unwritten part rose = record {
+    ends = tt;
+    left = λ texts held. let less = part texts held in (less.0, less.1, less.2, refl);
+    text_fault = λ e. cc;
+    shelf_fault = λ e. cc;
+    message_fault = λ e. rose;
+  }
 
-    pub parsed_ends : (tokens : List TextToken) (refusal : Refusal) → IsWithinLimit frame.input text → tokens_of 0 text ≡ Ok tokens → (refusal ≢ Refusal.NoMemory → IsScene tokens (frame.settings) (Err refusal)) → Ends (parse_fault refusal)
-    parsed_ends tokens (Refusal.Expected kind place) short lexed why = refused _ tt (λ texts held. FrameVerdict.found text (found texts held) (TextVerdict.no_scene tokens (Refusal.Expected kind place) short lexed (why (λ e. cc)) refl))
-    parsed_ends tokens (Refusal.OutOfProfile place) short lexed why = refused _ tt (λ texts held. FrameVerdict.found text (found texts held) (TextVerdict.no_scene tokens (Refusal.OutOfProfile place) short lexed (why (λ e. cc)) refl))
-    parsed_ends tokens (Refusal.ValueRange place) short lexed why = refused _ tt (λ texts held. FrameVerdict.found text (found texts held) (TextVerdict.no_scene tokens (Refusal.ValueRange place) short lexed (why (λ e. cc)) refl))
-    parsed_ends tokens Refusal.NoMemory short lexed why = no_memory_ends
+  pub unwritten_cut : (ending : Ending) → ending ≡ record { fault = MessageFault; report = None } → ((texts : List Text) → told ≡ Some texts → (found : Handed) × IsExpanded frame texts found × GrewByLess before now found.messages) → Rose kb kn → Cut ending
+  unwritten_cut ending is part rose = subst Cut (sym is) (unwritten part rose)
 
--- the frame's picture file is what it comes to
-pub drawn_verdict : (frame : Frame) (told : Option (List Text)) (text : List ℕ) → ((texts : List Text) → told ≡ Some texts → scene_text frame.generate frame.input texts ≡ Some text) → (tokens : List TextToken) (scene : Scene) (picture file : List ℕ) → IsWithinLimit frame.input text → tokens_of 0 text ≡ Ok tokens → IsScene tokens (frame.settings) (Ok scene) → IsPicture (pixel_shows (Shows scene) frame.width frame.height) frame.width frame.height frame.bits picture → file ≡ file_of frame.sort frame.width frame.height frame.bits picture → (texts : List Text) → told ≡ Some texts → FrameVerdict frame texts Done
-drawn_verdict frame told text found tokens scene picture file short lexed parsed shown filed texts held =
-    FrameVerdict.found text (found texts held) (TextVerdict.drawn file
-    (record {
-      short = short;
-      scene = scene;
-      meant = record { tokens = tokens; lexed = lexed; parsed = parsed };
-      drawn = record { picture = picture; shown = shown; filed = filed };
-    }) refl)
+-- the items of a frame are refused
+module _ (frame : Frame) (told : Option (List Text)) (tb tn shelf kb kn : ℕ) (before now : Option (List ℕ)) (found : Expansion) (carried : (texts : List Text) → told ≡ Some texts → IsCarried frame texts before now found) (report : Option Report) (none : messages_left report ≡ []) where
+  abbrev IsLine : Fault → Type 0
+  IsLine fault = line_left report fault ≡ line_of (name_under found.names.items (text_number fault)) [] fault
+
+  told_by : (refusal : Refusal) → IsScene found.flat.tokens.items frame.settings (Err refusal) → IsLine (parse_fault refusal) → Told frame told tb tn shelf kb kn before now (parse_fault refusal) report
+  told_by refusal parsed line texts held =
+      let here = carried texts held in
+      let comes = FrameVerdict.no_scene _ refusal here.expanded parsed in
+      let messages : here.messages ≡ here.messages ++ messages_left report = sym (ap (λ more. here.messages ++ more) none ∙ append-nil here.messages) in (
+        here.messages,
+        here.written,
+        subst (λ m. FrameVerdict frame texts (record { fault = parse_fault refusal; messages = m; line = line_left report (parse_fault refusal) })) messages
+            (subst (λ l. FrameVerdict frame texts (record { fault = parse_fault refusal; messages = here.messages; line = l })) (sym line) comes),
+      )
+
+  cut_of : (refusal : Refusal) → (refusal ≢ Refusal.NoMemory → IsScene found.flat.tokens.items frame.settings (Err refusal)) → IsLine (parse_fault refusal) → IsCut frame told tb tn shelf shelf kb kn before now (record { fault = parse_fault refusal; report = report })
+  cut_of (Refusal.Expected kind place) parsed line = refused_cut frame told tb tn shelf kb kn before now _ report tt (told_by (Refusal.Expected kind place) (parsed (λ e. cc)) line)
+  cut_of (Refusal.OutOfProfile place) parsed line = refused_cut frame told tb tn shelf kb kn before now _ report tt (told_by (Refusal.OutOfProfile place) (parsed (λ e. cc)) line)
+  cut_of (Refusal.ValueRange place) parsed line = refused_cut frame told tb tn shelf kb kn before now _ report tt (told_by (Refusal.ValueRange place) (parsed (λ e. cc)) line)
+  cut_of Refusal.NoMemory parsed line = no_memory_cut frame told tb tn shelf kb kn before now report (λ texts held. ((carried texts held).messages, (carried texts held).written))
+
+  cut_by : (fault : Fault) (refusal : Refusal) → fault ≡ parse_fault refusal → (refusal ≢ Refusal.NoMemory → IsScene found.flat.tokens.items frame.settings (Err refusal)) → IsLine fault → IsCut frame told tb tn shelf shelf kb kn before now (record { fault = fault; report = report })
+  cut_by fault refusal is parsed line =
+      subst (λ f. IsCut frame told tb tn shelf shelf kb kn before now (record { fault = f; report = report })) (sym is) (cut_of refusal parsed (subst IsLine is line))
+
+pub unparsed_cut : (frame : Frame) (told : Option (List Text)) (tb tn shelf kb kn : ℕ) (before now : Option (List ℕ)) (found : Expansion) (ending : Ending) → ((texts : List Text) → told ≡ Some texts → IsCarried frame texts before now found) → IsUnparsed frame.settings found ending → IsCut frame told tb tn shelf shelf kb kn before now ending
+unparsed_cut frame told tb tn shelf kb kn before now found ending carried un = cut_by frame told tb tn shelf kb kn before now found carried ending.report un.messages ending.fault un.refusal un.answer un.parsed un.line
+
+-- the directives of a frame stop; nothing is written yet
+module _ (frame : Frame) (told : Option (List Text)) (tb tn shelf kb kn : ℕ) (before : Option (List ℕ)) (names : List (List ℕ)) (one : Report) where
+  abbrev left_of : Stop → Option Report
+  left_of stop = Some (record { messages = one.messages; name = name_under names (text_number (stop_fault stop)); text = error_text stop })
+
+  told_of : (stop : Stop) → ((texts : List Text) → told ≡ Some texts → IsStopped frame texts (record { stop = stop; messages = one.messages.items; names = names })) → Told frame told tb tn shelf kb kn before before (stop_fault stop) (left_of stop)
+  told_of stop stops texts held = ([], with_nothing before, FrameVerdict.stopped _ (stops texts held))
+
+  stop_cut : (stop : Stop) → (stop ≢ Stop.NoMemory → stop ≢ Stop.TextFault → (texts : List Text) → told ≡ Some texts → IsStopped frame texts (record { stop = stop; messages = one.messages.items; names = names })) → (stop ≡ Stop.TextFault → Rose tb tn) → IsCut frame told tb tn shelf shelf kb kn before before (record { fault = stop_fault stop; report = left_of stop })
+  stop_cut (Stop.Lex (LexFault.BadByte place)) why rose = refused_cut frame told tb tn shelf kb kn before before _ _ tt (told_of (Stop.Lex (LexFault.BadByte place)) (why (λ e. cc) (λ e. cc)))
+  stop_cut (Stop.Lex (LexFault.OpenComment place)) why rose = refused_cut frame told tb tn shelf kb kn before before _ _ tt (told_of (Stop.Lex (LexFault.OpenComment place)) (why (λ e. cc) (λ e. cc)))
+  stop_cut (Stop.Lex (LexFault.OpenString place)) why rose = refused_cut frame told tb tn shelf kb kn before before _ _ tt (told_of (Stop.Lex (LexFault.OpenString place)) (why (λ e. cc) (λ e. cc)))
+  stop_cut (Stop.Lex (LexFault.LongName place)) why rose = refused_cut frame told tb tn shelf kb kn before before _ _ tt (told_of (Stop.Lex (LexFault.LongName place)) (why (λ e. cc) (λ e. cc)))
+  stop_cut (Stop.Lex (LexFault.NumberRange place)) why rose = refused_cut frame told tb tn shelf kb kn before before _ _ tt (told_of (Stop.Lex (LexFault.NumberRange place)) (why (λ e. cc) (λ e. cc)))
+  stop_cut (Stop.Lex LexFault.NoMemory) why rose = no_memory_cut frame told tb tn shelf kb kn before before _ (λ texts held. ([], with_nothing before))
+  stop_cut (Stop.Expr (ExprFault.Expected place)) why rose = refused_cut frame told tb tn shelf kb kn before before _ _ tt (told_of (Stop.Expr (ExprFault.Expected place)) (why (λ e. cc) (λ e. cc)))
+  stop_cut (Stop.Expr (ExprFault.UnknownName place)) why rose = refused_cut frame told tb tn shelf kb kn before before _ _ tt (told_of (Stop.Expr (ExprFault.UnknownName place)) (why (λ e. cc) (λ e. cc)))
+  stop_cut (Stop.Expr (ExprFault.Kind place)) why rose = refused_cut frame told tb tn shelf kb kn before before _ _ tt (told_of (Stop.Expr (ExprFault.Kind place)) (why (λ e. cc) (λ e. cc)))
+  stop_cut (Stop.Expr (ExprFault.ZeroDivisor place)) why rose = refused_cut frame told tb tn shelf kb kn before before _ _ tt (told_of (Stop.Expr (ExprFault.ZeroDivisor place)) (why (λ e. cc) (λ e. cc)))
+  stop_cut (Stop.Expr (ExprFault.Range place)) why rose = refused_cut frame told tb tn shelf kb kn before before _ _ tt (told_of (Stop.Expr (ExprFault.Range place)) (why (λ e. cc) (λ e. cc)))
+  stop_cut (Stop.Expr ExprFault.NoMemory) why rose = no_memory_cut frame told tb tn shelf kb kn before before _ (λ texts held. ([], with_nothing before))
+  stop_cut (Stop.Directive kind place) why rose = refused_cut frame told tb tn shelf kb kn before before _ _ tt (told_of (Stop.Directive kind place) (why (λ e. cc) (λ e. cc)))
+  stop_cut (Stop.Absent name place) why rose = refused_cut frame told tb tn shelf kb kn before before _ _ tt (told_of (Stop.Absent name place) (why (λ e. cc) (λ e. cc)))
+  stop_cut Stop.TextFault why rose = text_cut frame told tb tn shelf kb kn before before _ (λ texts held. ([], with_nothing before)) (rose refl)
+  stop_cut (Stop.UserError text place) why rose = refused_cut frame told tb tn shelf kb kn before before _ _ tt (told_of (Stop.UserError text place) (why (λ e. cc) (λ e. cc)))
+  stop_cut (Stop.Limit which place) why rose = refused_cut frame told tb tn shelf kb kn before before _ _ tt (told_of (Stop.Limit which place) (why (λ e. cc) (λ e. cc)))
+  stop_cut Stop.NoMemory why rose = no_memory_cut frame told tb tn shelf kb kn before before _ (λ texts held. ([], with_nothing before))
+
+  pub stopped_cut : (stop : Stop) (fault : Fault) (text : List ℕ) (ending : Ending) → fault ≡ stop_fault stop → text ≡ error_text stop → ending ≡ record { fault = fault; report = Some (record { messages = one.messages; name = name_under names (text_number fault); text = text }) } → (stop ≢ Stop.NoMemory → stop ≢ Stop.TextFault → (texts : List Text) → told ≡ Some texts → IsStopped frame texts (record { stop = stop; messages = one.messages.items; names = names })) → (stop ≡ Stop.TextFault → Rose tb tn) → IsCut frame told tb tn shelf shelf kb kn before before ending
+  stopped_cut stop fault text ending is_fault is_text is why rose =
+      let now_fault : ending ≡ record { fault = stop_fault stop; report = Some (record { messages = one.messages; name = name_under names (text_number (stop_fault stop)); text = text }) } = is ∙ ap (λ f. record { fault = f; report = Some (record { messages = one.messages; name = name_under names (text_number f); text = text }) }) is_fault in
+      let now_text : ending ≡ record { fault = stop_fault stop; report = left_of stop } = now_fault ∙ ap (λ t. record { fault = stop_fault stop; report = Some (record { messages = one.messages; name = name_under names (text_number (stop_fault stop)); text = t }) }) is_text in
+      subst (IsCut frame told tb tn shelf shelf kb kn before before) (sym now_text) (stop_cut stop why rose)
+
+-- ---- a frame that is drawn
+
+module _ (frame : Frame) (texts : List Text) (before now : Option (List ℕ)) (found : Expansion) (scene : Scene) (picture file : List ℕ) (carried : IsCarried frame texts before now found) (parsed : IsScene found.flat.tokens.items frame.settings (Ok scene)) (shown : IsPicture (pixel_shows (Shows scene) frame.width frame.height) frame.width frame.height frame.bits picture) (filed : file ≡ file_of frame.sort frame.width frame.height frame.bits picture) where
+  pub drawn_verdict : (messages : List ℕ) × FrameVerdict frame texts (done messages) × (now ≡ with_bytes before messages)
+  drawn_verdict = (carried.messages, FrameVerdict.drawn _ scene file carried.expanded parsed (record { picture = picture; shown = shown; filed = filed }), carried.written)
+
+  pub drawn_meaning : IsMeaning frame texts file
+  drawn_meaning = record {
+    scene = scene;
+    meant = record { found = _; expanded = carried.expanded; parsed = parsed };
+    drawn = record { picture = picture; shown = shown; filed = filed };
+  }
 
 -- a storage that fails, or has no memory for the file
-pub stored_ends : (frame : Frame) (told : Option (List Text)) (texts_before texts_now shelf_before shelf_now : ℕ) (old new images images' : Contents) (fail : HoldFail) → ((texts : List Text) → told ≡ Some texts → FrameVerdict frame texts Done) → (fail ≡ HoldFail.Failed → Rose shelf_before shelf_now) → (fail ≡ HoldFail.NoMemory → SameContents old new) → (fail ≡ HoldFail.NoMemory → SameContents images images') → IsEnd frame told texts_before texts_now shelf_before shelf_now old new images images' (hold_fault fail)
-stored_ends frame told texts_before texts_now shelf_before shelf_now old new images images' HoldFail.Failed verdict rose kept crash_kept = record { ending = tt; caused = verdict; text_fault = λ e. cc; shelf_fault = λ e. rose refl; kept = λ other. absurd (other refl); crash_kept = λ other. absurd (other refl) }
-stored_ends frame told texts_before texts_now shelf_before shelf_now old new images images' HoldFail.NoMemory verdict rose kept crash_kept = record { ending = tt; caused = λ texts held. tt; text_fault = λ e. cc; shelf_fault = λ e. cc; kept = λ other. kept refl; crash_kept = λ other. crash_kept refl }
+pub stored_cut : (frame : Frame) (told : Option (List Text)) (tb tn sb sn kb kn : ℕ) (before now : Option (List ℕ)) (fail : HoldFail) → ((texts : List Text) → told ≡ Some texts → (messages : List ℕ) × FrameVerdict frame texts (done messages) × (now ≡ with_bytes before messages)) → (fail ≡ HoldFail.Failed → Rose sb sn) → IsCut frame told tb tn sb sn kb kn before now (record { fault = hold_fault fail; report = None })
+stored_cut frame told tb tn sb sn kb kn before now HoldFail.Failed verdict rose = record {
+  ends = tt;
+  left = λ texts held. let drawn = verdict texts held in (drawn.0, drawn.1, drawn.2, refl);
+  text_fault = λ e. cc;
+  shelf_fault = λ e. rose refl;
+  message_fault = λ e. cc;
+}
+stored_cut frame told tb tn sb sn kb kn before now HoldFail.NoMemory verdict rose = record {
+  ends = tt;
+  left = λ texts held. let drawn = verdict texts held in (drawn.0, drawn.2);
+  text_fault = λ e. cc;
+  shelf_fault = λ e. cc;
+  message_fault = λ e. cc;
+}
 
--- a text under another spelling of its name and bytes
-pub long_at : (name name' text text' : List ℕ) (fault : Fault) → name ≡ name' → text ≡ text' → IsLong name text fault → IsLong name' text' fault
-long_at name name' text text' fault is_name is_text long = subst (λ t. IsLong name' t fault) is_text (subst (λ n. IsLong n text fault) is_name long)
+pub stored_kept : (old new : Contents) (fail : HoldFail) → (fail ≡ HoldFail.NoMemory → SameContents old new) → hold_fault fail ≢ ShelfFault → SameContents old new
+stored_kept old new HoldFail.Failed kept other = absurd (other refl)
+stored_kept old new HoldFail.NoMemory kept other = kept refl
 
-pub within_at : (name name' text text' : List ℕ) → name ≡ name' → text ≡ text' → IsWithinLimit name text → IsWithinLimit name' text'
-within_at name name' text text' is_name is_text short = subst (λ t. IsWithinLimit name' t) is_text (subst (λ n. IsWithinLimit n text) is_name short)
+-- the file's bytes are what is stored
+pub stored_meaning : (frame : Frame) (texts : List Text) (holds : Contents) (name name' file file' : List ℕ) → name' ≡ name → file' ≡ file → ((c : List ℕ) → holds name' c → c ≡ file') → IsMeaning frame texts file → (c : List ℕ) → holds name c → IsMeaning frame texts c
+stored_meaning frame texts holds name name' file file' is_name is_file stored meaning c held =
+    subst (IsMeaning frame texts) (sym (stored c (subst (λ n. holds n c) (sym is_name) held) ∙ is_file)) meaning
 
-pub scene_at : (tokens tokens' : List TextToken) (set set' : Settings) (r : Result Scene Refusal) → tokens ≡ tokens' → set ≡ set' → IsScene tokens set r → IsScene tokens' set' r
-scene_at tokens tokens' set set' r is_tokens is_set scene = subst (λ s. IsScene tokens' s r) is_set (subst (λ ts. IsScene ts set r) is_tokens scene)
+-- ---- behind the report
+
+line_without : (report : Option Report) → line_left report MessageFault ≡ []
+line_without None = refl
+line_without (Some report) = refl
+
+no_memory_left : (report : Option Report) → line_left report NoMemory ≡ line_of [] [] NoMemory
+no_memory_left None = refl
+no_memory_left (Some report) = refl
+
+text_left : (report : Option Report) → line_left report TextFault ≡ line_of [] [] TextFault
+text_left None = refl
+text_left (Some report) = refl
+
+shelf_left : (report : Option Report) → line_left report ShelfFault ≡ line_of [] [] ShelfFault
+shelf_left None = refl
+shelf_left (Some report) = refl
+
+module _ (frame : Frame) (texts : List Text) (before mid now : Option (List ℕ)) (kb km kn : ℕ) (later : kb ≤ km) where
+  -- what was written, what was left, and the line
+  whole : (messages : List ℕ) (report : Option Report) (line : List ℕ) → mid ≡ with_bytes before messages → Says mid now km kn (messages_left report ++ line) → Says before now kb kn ((messages ++ messages_left report) ++ line)
+  whole messages report line is says =
+      says_same before now kb kn (messages ++ (messages_left report ++ line)) ((messages ++ messages_left report) ++ line) (sym (append_assoc messages (messages_left report) line))
+      (says_behind before mid now kb km kn messages (messages_left report ++ line) is later says)
+
+  said_of : (fault : Fault) (report : Option Report) → IsLeft frame texts before mid (record { fault = fault; report = report }) fault → Says mid now km kn (messages_left report ++ line_left report fault) → IsFrameSaid frame texts fault before now kb kn
+  said_of Done report left says = absurd left
+  said_of (OptionFault kind place) report left says = absurd left
+  said_of (SceneFault letter kind place) report left says = (_, left.2, refl, whole left.0 report (line_left report (SceneFault letter kind place)) left.1 says)
+  said_of (Limit which place) report left says = (_, left.2, refl, whole left.0 report (line_left report (Limit which place)) left.1 says)
+  said_of (Absent name) report left says = (_, left.2, refl, whole left.0 report (line_left report (Absent name)) left.1 says)
+  said_of TextFault report left says = (left.0 ++ messages_left report, subst (λ l. Says before now kb kn ((left.0 ++ messages_left report) ++ l)) (text_left report) (whole left.0 report (line_left report TextFault) left.1 says))
+  said_of NoMemory report left says = (left.0 ++ messages_left report, subst (λ l. Says before now kb kn ((left.0 ++ messages_left report) ++ l)) (no_memory_left report) (whole left.0 report (line_left report NoMemory) left.1 says))
+  said_of ShelfFault report left says = (
+    left.0,
+    left.1,
+    subst (λ l. Says before now kb kn (left.0 ++ l)) (shelf_left report)
+        (says_behind before mid now kb km kn left.0 (line_left report ShelfFault) left.2 later (subst (λ m. Says mid now km kn (m ++ line_left report ShelfFault)) left.3 says)),
+  )
+  said_of MessageFault report left says =
+      let still : now ≡ mid = says_nothing mid now km kn (messages_left report ++ line_left report MessageFault) (ap (λ m. m ++ line_left report MessageFault) left.3 ∙ line_without report) says in
+      (left.0, left.1, subst (λ w. GrewByLess before w left.0.messages) (sym still) left.2)
+
+  -- there is no memory for the line
+  unsaid_of : (fault : Fault) (report : Option Report) → IsPlaced fault → IsLeft frame texts before mid (record { fault = fault; report = report }) fault → Says mid now km kn (messages_left report ++ line_left report NoMemory) → IsFrameSaid frame texts NoMemory before now kb kn
+  unsaid_of (SceneFault letter kind place) report placed left says = said_of NoMemory report (left.0, left.1) says
+  unsaid_of (Limit which place) report placed left says = said_of NoMemory report (left.0, left.1) says
+  unsaid_of (Absent name) report placed left says = said_of NoMemory report (left.0, left.1) says
+  unsaid_of (OptionFault kind place) report placed left says = absurd left
+  unsaid_of Done report placed left says = absurd placed
+  unsaid_of TextFault report placed left says = absurd placed
+  unsaid_of ShelfFault report placed left says = absurd placed
+  unsaid_of MessageFault report placed left says = absurd placed
+  unsaid_of NoMemory report placed left says = absurd placed
+
+placed_other : (fault : Fault) → IsPlaced fault → fault ≢ ShelfFault
+placed_other (SceneFault letter kind place) placed = λ e. cc
+placed_other (Limit which place) placed = λ e. cc
+placed_other (Absent name) placed = λ e. cc
+placed_other (OptionFault kind place) placed = λ e. cc
+placed_other Done placed = absurd placed
+placed_other TextFault placed = absurd placed
+placed_other ShelfFault placed = absurd placed
+placed_other MessageFault placed = absurd placed
+placed_other NoMemory placed = absurd placed
+
+module _ (frame : Frame) (told : Option (List Text)) (tb tn sb sn kb km kn : ℕ) (old new images images' : Contents) (before mid now : Option (List ℕ)) (later : kb ≤ km) (last : km ≤ kn) (fault : Fault) (report : Option Report) (cut : IsCut frame told tb tn sb sn kb km before mid (record { fault = fault; report = report })) (kept : fault ≢ ShelfFault → SameContents old new) (crash_kept : fault ≢ ShelfFault → SameContents images images') where
+  abbrev End : Fault → Type 0
+  End = IsEnd frame told tb tn sb sn kb kn old new images images' before now
+
+  as_told : Says mid now km kn (messages_left report ++ line_left report fault) → End fault
+  as_told says = record {
+    ending = cut.ends;
+    said = λ texts held. said_of frame texts before mid now kb km kn later fault report (cut.left texts held) says;
+    text_fault = cut.text_fault;
+    shelf_fault = cut.shelf_fault;
+    message_fault = λ e. rose_to kb km kn (cut.message_fault e) last;
+    kept = kept;
+    crash_kept = crash_kept;
+  }
+
+  without_line : IsPlaced fault → Says mid now km kn (messages_left report ++ line_left report NoMemory) → End NoMemory
+  without_line placed says = record {
+    ending = tt;
+    said = λ texts held. unsaid_of frame texts before mid now kb km kn later fault report placed (cut.left texts held) says;
+    text_fault = λ e. cc;
+    shelf_fault = λ e. cc;
+    message_fault = λ e. cc;
+    kept = λ e. kept (placed_other fault placed);
+    crash_kept = λ e. crash_kept (placed_other fault placed);
+  }
+
+  pub reported_end : (reported : Fault) → (reported ≡ fault) ⊎ ((reported ≡ NoMemory) × IsPlaced fault) → Says mid now km kn (messages_left report ++ line_left report reported) → End reported
+  reported_end reported (inl is) says = subst End (sym is) (as_told (subst (λ f. Says mid now km kn (messages_left report ++ line_left report f)) is says))
+  reported_end reported (inr none) says = subst End (sym none.0) (without_line none.1 (subst (λ f. Says mid now km kn (messages_left report ++ line_left report f)) none.0 says))

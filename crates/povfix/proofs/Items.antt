@@ -1,5 +1,5 @@
 -- Tokens that stand for themselves, and items by their words.
-use Rattle.std.proofs.Common.{◌≡◌, ◌<◌, ◌≤◌, ◌+◌, ℕ, Bool, true, false, List, [], ◌∷◌, length, Option, Some, None, Result, Ok, Err, refl, sym, subst, arith, length-append}
+use Rattle.std.proofs.Common.{◌≡◌, ◌<◌, ◌+◌, ℕ, Bool, true, false, List, [], ◌∷◌, length, Option, Some, None, Result, Ok, Err, refl, sym, subst}
 use Rattle.std.specs.Prelude.{slice_get}
 use Rattle.std.specs.Result.{IfErr, IsErrAnd}
 use Rattle.std.proofs.lemmas.Option.{slice_get_within}
@@ -9,10 +9,9 @@ use Rattle.scene_expr.specs.Heads.{place_at}
 use Rattle.povfix.specs.declared.grammar.Mark.{Mark}
 use Rattle.povfix.specs.declared.refusal.Refusal.{Refusal}
 use Rattle.povfix.specs.declared.scene.Item.{Item}
-use Rattle.povfix.specs.Grammar.{with_item, IsItem, IsBackground, IsSphere}
+use Rattle.povfix.specs.Grammar.{IsItem, IsBackground, IsSphere}
 use Rattle.povfix.specs.Marks.{fits_at, fits_token, passed_marks}
 use Rattle.povfix.specs.Parameters.{Behind}
-use Rattle.povfix.specs.Scenes.{Scene}
 
 -- what holds of a refusal holds at the exit of a `?`
 pub exit : {T E : Type 0} → (Q : E → Type 0) (y : E) (r : Result T E) → IsErrAnd r (λ x. x ≡ y) → Q y → IfErr r Q
@@ -53,8 +52,3 @@ module _ (tokens : List TextToken) (set : Settings) (at : ℕ) (background spher
   as_neither other another =
       let refusal : Result (Behind Item) Refusal = Err (Refusal.OutOfProfile (place_at tokens at)) in
       subst (λ b. IsItem tokens set at b sphere refusal) (sym other) (subst (λ b. IsItem tokens set at false b refusal) (sym another) refl)
-
--- an item draws one ball more at most
-pub few_with : (item : Item) (drawn : Scene) → length (with_item item drawn).balls ≤ length drawn.balls + 1
-few_with (Item.Background colour) drawn = omega arith
-few_with (Item.Ball ball) drawn = omega (arith, length-append drawn.balls (ball ∷ []))

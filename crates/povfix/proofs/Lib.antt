@@ -2,11 +2,12 @@ pub mod Lists
 pub mod Items
 pub mod OneScene
 pub mod Storing
+pub mod Saying
 pub mod Reports
-pub mod Counts
 pub mod Endings
 pub mod Plans
 pub mod Courses
+pub mod OneFrame
 pub mod Verdicts
 pub mod Pictures
 pub mod OneMeaning

@@ -6,15 +6,15 @@ use Rattle.fix_math.specs.declared.fix.V3.{V3}
 use Rattle.shapes.specs.declared.ray.Ray.{Ray}
 use Rattle.csg_hits.specs.declared.hit.Hit.{Hit}
 use Rattle.csg_hits.specs.Nearest.{IsNearest}
-use Rattle.scene_lexer.specs.declared.token.Token.{Token as TextToken}
-use Rattle.scene_expr.specs.declared.value.Settings.{Settings}
 use Rattle.image_out.specs.Files.{file_of}
 use Rattle.directive_machine.specs.declared.texts.Text.{Text}
+use Rattle.directive_machine.specs.Expansions.{Handed}
 use Rattle.povfix.specs.Grammar.{IsScene}
 use Rattle.povfix.specs.Picture.{pixel_ray_of, pixel_shows, IsBallHit, Shows, IsPicture}
 use Rattle.povfix.specs.Scenes.{Scene, Ball}
 use Rattle.povfix.specs.Samples.{pixel_bytes, pixel_length}
-use Rattle.povfix.specs.Frames.{Frame, IsMeant, IsDrawn, IsImage, IsMeaning}
+use Rattle.povfix.specs.Frames.{Frame, IsMeant, IsDrawn, IsMeaning}
+use Rattle.povfix.proofs.OneFrame.{OneExpansion, one_expanded}
 use Rattle.povfix.proofs.OneScene.{one_scene}
 use Rattle.povfix.proofs.Pictures.{times_next}
 use Rattle.std.proofs.Math.Nat.{mul-suc}
@@ -78,20 +78,16 @@ one_drawn frame scene a b p q =
     let same : p.picture ≡ q.picture = one_picture scene frame.width frame.height frame.bits p.picture q.picture p.shown q.shown in
     p.filed ∙ ap (file_of frame.sort frame.width frame.height frame.bits) same ∙ sym q.filed
 
--- ---- a text has one scene, and so one file
+-- ---- texts have one scene, and so one file
 
-one_meant : (set : Settings) (text : List ℕ) (a b : Scene) → IsMeant set text a → IsMeant set text b → a ≡ b
-one_meant set text a b p q =
-    let same : q.tokens ≡ p.tokens = cc in
-    let scene = subst (λ (tokens : List TextToken). IsScene tokens set (Ok b)) same q.parsed in
-    cc (one_scene p.tokens set (Ok a) (Ok b) p.parsed scene)
+module _ (law : OneExpansion) (frame : Frame) (texts : List Text) where
+  one_meant : (a b : Scene) → IsMeant frame texts a → IsMeant frame texts b → a ≡ b
+  one_meant a b p q =
+      let same : q.found ≡ p.found = one_expanded law frame texts q.found p.found q.expanded p.expanded in
+      let scene = subst (λ (found : Handed). IsScene found.tokens frame.settings (Ok b)) same q.parsed in
+      cc (one_scene p.found.tokens frame.settings (Ok a) (Ok b) p.parsed scene)
 
-one_image : (frame : Frame) (text a b : List ℕ) → IsImage frame text a → IsImage frame text b → a ≡ b
-one_image frame text a b p q =
-    let same : q.scene ≡ p.scene = one_meant frame.settings text q.scene p.scene q.meant p.meant in
-    one_drawn frame p.scene a b p.drawn (subst (λ scene. IsDrawn frame scene b) same q.drawn)
-
-pub one_meaning : (frame : Frame) (texts : List Text) (a b : List ℕ) → IsMeaning frame texts a → IsMeaning frame texts b → a ≡ b
-one_meaning frame texts a b p q =
-    let same : q.0 ≡ p.0 = cc (p.1, q.1) in
-    one_image frame p.0 a b p.2 (subst (λ text. IsImage frame text b) same q.2)
+  pub one_meaning : (a b : List ℕ) → IsMeaning frame texts a → IsMeaning frame texts b → a ≡ b
+  one_meaning a b p q =
+      let same : q.scene ≡ p.scene = one_meant q.scene p.scene q.meant p.meant in
+      one_drawn frame p.scene a b p.drawn (subst (λ scene. IsDrawn frame scene b) same q.drawn)

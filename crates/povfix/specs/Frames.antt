@@ -1,13 +1,12 @@
 -- What a frame asks for and means, and what the frames of a run leave in the storage.
-use Rattle.std.specs.Prelude.{ℕ, zero, suc, ◌+◌, ◌-◌, ◌==◌, ◌≤◌, ◌≡◌, ◌≢◌, if◌then◌else◌, List, [], ◌∷◌, length, Option, Some, Result, Ok, Err}
+use Rattle.std.specs.Prelude.{ℕ, zero, suc, ◌+◌, ◌-◌, ◌==◌, ◌≤◌, ◌≡◌, ◌≢◌, if◌then◌else◌, List, [], ◌∷◌, length, Option, None, Some, Result, Ok, Err}
 use Rattle.shelf.specs.Disk.{Contents}
 use Rattle.image_out.specs.declared.picture.Sort.{Sort}
 use Rattle.image_out.specs.Files.{file_of}
-use Rattle.scene_lexer.specs.declared.token.Token.{Token as TextToken}
-use Rattle.scene_lexer.specs.Tokens.{tokens_of}
 use Rattle.scene_expr.specs.declared.value.Settings.{Settings}
 use Rattle.directive_machine.specs.declared.texts.Text.{Text}
-use Rattle.directive_machine.specs.Texts.{text_of, IsWithinLimit}
+use Rattle.directive_machine.specs.Course.{Given, Halted, given}
+use Rattle.directive_machine.specs.Expansions.{Handed, ComesTo, StopsAt}
 use Rattle.options.specs.declared.plan.Plan.{Plan}
 use Rattle.options.specs.declared.fault.OptionFault.{OptionFault as Refusal}
 use Rattle.options.specs.Frames.{picture_name, settings_of}
@@ -20,11 +19,12 @@ use Rattle.povfix.specs.Scenes.{Scene}
 
 -- ---- one frame
 
--- the name of its scene text, the balls of a generated one, the name of its picture file, the picture's sides, its sort and
--- the bits of a sample, and what it tells its expressions
+-- the name of its scene text, the balls of a generated one, where includes are searched for, the name of its picture file,
+-- the picture's sides, its sort and the bits of a sample, and what it tells its expressions
 pub record Frame : Type 0 where
   pub input : List ℕ
   pub generate : ℕ
+  pub libraries : List (List ℕ)
   pub output : List ℕ
   pub width : ℕ
   pub height : ℕ
@@ -32,15 +32,27 @@ pub record Frame : Type 0 where
   pub bits : ℕ
   pub settings : Settings
 
--- the scene text: the one of this name, or one of so many balls that is generated in its place
-abbrev pub scene_text : ℕ → List ℕ → List Text → Option (List ℕ)
-scene_text balls name texts = if balls == 0 then text_of texts name else Some (generated_text balls)
+-- a text of so many balls that is generated in place of one that is read
+abbrev pub generated_for : ℕ → Option (List ℕ)
+generated_for balls = if balls == 0 then None else Some (generated_text balls)
 
--- the text means this scene
-pub record IsMeant (set : Settings) (text : List ℕ) (scene : Scene) : Type 0 where
-  pub tokens : List TextToken
-  pub lexed : tokens_of 0 text ≡ Ok tokens
-  pub parsed : IsScene tokens set (Ok scene)
+-- what the directives of its scene are carried out over
+abbrev pub given_for : Frame → List Text → Given
+given_for frame texts = given frame.settings frame.libraries texts
+
+-- its directives are carried out, and leave these tokens and messages, over texts of these names
+abbrev pub IsExpanded : Frame → List Text → Handed → Type 0
+IsExpanded frame texts found = ComesTo (given_for frame texts) frame.input (generated_for frame.generate) found
+
+-- its directives stop here
+abbrev pub IsStopped : Frame → List Text → Halted → Type 0
+IsStopped frame texts halted = StopsAt (given_for frame texts) frame.input (generated_for frame.generate) halted
+
+-- the texts mean this scene
+pub record IsMeant (frame : Frame) (texts : List Text) (scene : Scene) : Type 0 where
+  pub found : Handed
+  pub expanded : IsExpanded frame texts found
+  pub parsed : IsScene found.tokens frame.settings (Ok scene)
 
 -- the file of a scene's picture
 pub record IsDrawn (frame : Frame) (scene : Scene) (file : List ℕ) : Type 0 where
@@ -48,16 +60,11 @@ pub record IsDrawn (frame : Frame) (scene : Scene) (file : List ℕ) : Type 0 wh
   pub shown : IsPicture (pixel_shows (Shows scene) frame.width frame.height) frame.width frame.height frame.bits picture
   pub filed : file ≡ file_of frame.sort frame.width frame.height frame.bits picture
 
--- the picture file of a frame with this text
-pub record IsImage (frame : Frame) (text file : List ℕ) : Type 0 where
-  pub short : IsWithinLimit frame.input text
-  pub scene : Scene
-  pub meant : IsMeant frame.settings text scene
-  pub drawn : IsDrawn frame scene file
-
 -- the picture file of a frame over these texts
-abbrev pub IsMeaning : Frame → List Text → List ℕ → Type 0
-IsMeaning frame texts file = (text : List ℕ) × (scene_text frame.generate frame.input texts ≡ Some text) × IsImage frame text file
+pub record IsMeaning (frame : Frame) (texts : List Text) (file : List ℕ) : Type 0 where
+  pub scene : Scene
+  pub meant : IsMeant frame texts scene
+  pub drawn : IsDrawn frame scene file
 
 -- ---- the frames of a run
 
@@ -66,6 +73,7 @@ abbrev pub frame_of : Plan → ℕ → Frame
 frame_of plan number = record {
   input = plan.input;
   generate = plan.generate;
+  libraries = plan.libraries;
   output = picture_name plan number;
   width = plan.width;
   height = plan.height;

@@ -10,4 +10,5 @@ pub mod Lines
 pub mod Frames
 pub mod Asked
 pub mod Verdict
+pub mod Said
 pub mod Steps

@@ -1,47 +1,78 @@
--- What a run says of how it ends.
-use Rattle.std.specs.Prelude.{ℕ, ◌≡◌, ◌⊎◌, List, [], ◌∷◌, ◌++◌, codes, Option}
+-- What a run says of its faults.
+use Rattle.std.specs.Prelude.{ℕ, ◌≡◌, ◌⊎◌, ◌==◌, if◌then◌else◌, List, [], ◌∷◌, ◌++◌, codes, slice_get, Option, None, Some, unwrap_or}
 use Rattle.std.specs.Fmt.{decimal}
 use Rattle.shelf.specs.Causes.{Rose}
 use Rattle.shelf.specs.Stream.{with_bytes, GrewByFront}
 use Rattle.options.specs.declared.fault.Where.{Where}
 use Rattle.options.specs.declared.fault.Where.TheVariants.{Word, Line}
+use Rattle.povfix.specs.declared.ending.Report.{Report}
 use Rattle.povfix.specs.declared.outcome.Fault.{Fault}
-use Rattle.povfix.specs.declared.outcome.Fault.TheVariants.{Done, OptionFault, SceneFault, Limit, Absent, TextFault, ShelfFault, NoMemory}
+use Rattle.povfix.specs.declared.outcome.Fault.TheVariants.{Done, OptionFault, SceneFault, Limit, Absent, TextFault, ShelfFault, MessageFault, NoMemory}
+
+-- ---- the line of a fault
 
 abbrev pub where_line : Where → List ℕ
 where_line (Word number) = codes "word " ++ decimal number
 where_line (Line number) = codes "line " ++ decimal number
 
--- the place in the scene text that ends a line
-abbrev pub place_end : List ℕ → ℕ → List ℕ
-place_end scene number = codes " at " ++ scene ++ codes ":" ++ decimal number ++ codes "\n"
+-- the place in a scene text
+abbrev pub place_line : List ℕ → ℕ → List ℕ
+place_line name number = codes " at " ++ name ++ codes ":" ++ decimal number
+
+-- the text of an error of the scene's maker stands behind the place
+abbrev pub text_line : ℕ → List ℕ → List ℕ
+text_line letter text = if letter == 85 then 32 ∷ text else []
 
 abbrev pub option_line : ℕ → Where → List ℕ
 option_line kind place = codes "option fault " ++ decimal kind ++ codes " at " ++ where_line place ++ codes "\n"
 
-abbrev pub scene_line : List ℕ → ℕ → ℕ → ℕ → List ℕ
-scene_line scene letter kind number = codes "scene fault " ++ letter ∷ [] ++ decimal kind ++ place_end scene number
+abbrev pub scene_line : List ℕ → List ℕ → ℕ → ℕ → ℕ → List ℕ
+scene_line name text letter kind number = codes "scene fault " ++ letter ∷ [] ++ decimal kind ++ place_line name number ++ text_line letter text ++ codes "\n"
 
 abbrev pub limit_line : List ℕ → ℕ → ℕ → List ℕ
-limit_line scene which number = codes "limit " ++ decimal which ++ place_end scene number
+limit_line name which number = codes "limit " ++ decimal which ++ place_line name number ++ codes "\n"
 
 abbrev pub absent_line : List ℕ → List ℕ
 absent_line name = codes "absent " ++ name ++ codes "\n"
 
--- one line for each fault, with the name of the scene text, ended by a line feed; nothing where all is done
-abbrev pub line_of : List ℕ → Fault → List ℕ
-line_of scene Done = []
-line_of scene (OptionFault kind place) = option_line kind place
-line_of scene (SceneFault letter kind place) = scene_line scene letter kind place.line
-line_of scene (Limit which place) = limit_line scene which place.line
-line_of scene (Absent name) = absent_line name
-line_of scene TextFault = codes "text fault\n"
-line_of scene ShelfFault = codes "shelf fault\n"
-line_of scene NoMemory = codes "no memory\n"
+-- one line for each fault, ended by a line feed, with the name of the text in which it stands and the text of an error;
+-- nothing where all is done, and where messages can't be written
+abbrev pub line_of : List ℕ → List ℕ → Fault → List ℕ
+line_of name text Done = []
+line_of name text (OptionFault kind place) = option_line kind place
+line_of name text (SceneFault letter kind place) = scene_line name text letter kind place.line
+line_of name text (Limit which place) = limit_line name which place.line
+line_of name text (Absent absent) = absent_line absent
+line_of name text TextFault = codes "text fault\n"
+line_of name text ShelfFault = codes "shelf fault\n"
+line_of name text MessageFault = []
+line_of name text NoMemory = codes "no memory\n"
 
--- a sink took all of a line, or a part of it where its count of faults rose
+-- the number of the text in which a fault stands
+abbrev pub text_number : Fault → ℕ
+text_number (SceneFault letter kind place) = place.file
+text_number (Limit which place) = place.file
+text_number fault = 0
+
+-- the name of a text by its number
+abbrev pub name_under : List (List ℕ) → ℕ → List ℕ
+name_under names number = unwrap_or (slice_get names number) []
+
+-- ---- what is still to be said of a fault
+
+abbrev pub messages_left : Option Report → List ℕ
+messages_left None = []
+messages_left (Some report) = report.messages.items
+
+abbrev pub line_left : Option Report → Fault → List ℕ
+line_left None fault = line_of [] [] fault
+line_left (Some report) fault = line_of report.name report.text fault
+
+-- ---- what a sink has then
+
+-- a sink took all of these bytes, or a part of them where its count of faults rose
 abbrev pub Says : Option (List ℕ) → Option (List ℕ) → ℕ → ℕ → List ℕ → Type 0
-Says before now faults_before faults_now line = (now ≡ with_bytes before line) ⊎ (Rose faults_before faults_now × GrewByFront before now line)
+Says before now faults_before faults_now bytes = (now ≡ with_bytes before bytes) ⊎ (Rose faults_before faults_now × GrewByFront before now bytes)
 
 -- a fault whose line names a word, a place or a text
 abbrev pub IsPlaced : Fault → Type 0

@@ -1,60 +1,74 @@
 -- What words and texts come to, before anything fails outside, and what stands where a run answers otherwise.
-use Rattle.std.specs.Prelude.{ℕ, zero, suc, ◌+◌, ◌≡◌, ◌≢◌, ◌⊎◌, List, [], ◌∷◌, Some, None, Result, Ok, Err}
-use Rattle.scene_lexer.specs.declared.token.Place.{Place}
-use Rattle.scene_lexer.specs.declared.token.Token.{Token as TextToken}
-use Rattle.scene_lexer.specs.declared.token.LexFault.{LexFault}
-use Rattle.scene_lexer.specs.Tokens.{tokens_of}
+use Rattle.std.specs.Prelude.{ℕ, zero, suc, ◌+◌, ◌≡◌, ◌≢◌, ◌⊎◌, List, [], ◌∷◌, ◌++◌, Result, Ok, Err}
 use Rattle.directive_machine.specs.declared.texts.Text.{Text}
-use Rattle.directive_machine.specs.Texts.{IsWithinLimit}
+use Rattle.directive_machine.specs.Course.{Halted}
+use Rattle.directive_machine.specs.Expansions.{Handed}
 use Rattle.options.specs.declared.plan.Plan.{Plan}
 use Rattle.options.specs.declared.fault.OptionFault.{OptionFault as OptionRefusal}
 use Rattle.povfix.specs.declared.outcome.Fault.{Fault}
-use Rattle.povfix.specs.declared.outcome.Fault.TheVariants.{Done, OptionFault, Limit, Absent, TextFault, ShelfFault, NoMemory}
+use Rattle.povfix.specs.declared.outcome.Fault.TheVariants.{Done, OptionFault, TextFault, ShelfFault, MessageFault, NoMemory}
 use Rattle.povfix.specs.declared.refusal.Refusal.{Refusal}
-use Rattle.povfix.specs.Conversions.{option_fault, lex_fault, parse_fault}
-use Rattle.povfix.specs.Frames.{Frame, frames_in, scene_text, IsImage}
+use Rattle.povfix.specs.Conversions.{error_text, option_fault, parse_fault, stop_fault}
+use Rattle.povfix.specs.Frames.{Frame, frames_in, IsDrawn, IsExpanded, IsStopped}
 use Rattle.povfix.specs.Grammar.{IsScene}
+use Rattle.povfix.specs.Lines.{line_of, name_under, text_number}
+use Rattle.povfix.specs.Scenes.{Scene}
 
--- the start of the first text
-abbrev pub text_start : Place
-text_start = record { file = 0; at = 0; line = 1 }
+-- a fault, or that all is done; the messages up to there; and the fault's line
+pub record Verdict : Type 0 where
+  pub fault : Fault
+  pub messages : List ℕ
+  pub line : List ℕ
 
--- what a frame with this text comes to: its picture file, or the first thing that is wrong with the text
-pub data TextVerdict (frame : Frame) (text : List ℕ) (verdict : Fault) : Type 0 where
-  drawn : (file : List ℕ) → IsImage frame text file → verdict ≡ Done → TextVerdict frame text verdict
-  long : ¬ IsWithinLimit frame.input text → verdict ≡ Limit 4 text_start → TextVerdict frame text verdict
-  no_tokens : (fault : LexFault) → IsWithinLimit frame.input text → tokens_of 0 text ≡ Err fault → verdict ≡ lex_fault fault → TextVerdict frame text verdict
-  no_scene : (tokens : List TextToken) (refusal : Refusal) → IsWithinLimit frame.input text → tokens_of 0 text ≡ Ok tokens → IsScene tokens frame.settings (Err refusal) → verdict ≡ parse_fault refusal → TextVerdict frame text verdict
+abbrev pub done : List ℕ → Verdict
+done messages = record { fault = Done; messages = messages; line = [] }
 
--- what a frame comes to over these texts
-pub data FrameVerdict (frame : Frame) (texts : List Text) (verdict : Fault) : Type 0 where
-  absent : scene_text frame.generate frame.input texts ≡ None → verdict ≡ Absent frame.input → FrameVerdict frame texts verdict
-  found : (text : List ℕ) → scene_text frame.generate frame.input texts ≡ Some text → TextVerdict frame text verdict → FrameVerdict frame texts verdict
+-- a fault in texts of these names
+abbrev pub refused : Fault → List ℕ → List (List ℕ) → List ℕ → Verdict
+refused fault messages names text = record { fault = fault; messages = messages; line = line_of (name_under names (text_number fault)) text fault }
+
+-- the messages of earlier frames come before
+abbrev pub behind : List ℕ → Verdict → Verdict
+behind messages verdict = record { fault = verdict.fault; messages = messages ++ verdict.messages; line = verdict.line }
+
+-- what a frame comes to over these texts: its picture is drawn, or its items are refused, or its directives stop
+pub data FrameVerdict (frame : Frame) (texts : List Text) : Verdict → Type 0 where
+  drawn : (found : Handed) (scene : Scene) (file : List ℕ) → IsExpanded frame texts found → IsScene found.tokens frame.settings (Ok scene) → IsDrawn frame scene file → FrameVerdict frame texts (done found.messages)
+  no_scene : (found : Handed) (refusal : Refusal) → IsExpanded frame texts found → IsScene found.tokens frame.settings (Err refusal) → FrameVerdict frame texts (refused (parse_fault refusal) found.messages found.names [])
+  stopped : (halted : Halted) → IsStopped frame texts halted → FrameVerdict frame texts (refused (stop_fault halted.stop) halted.messages halted.names (error_text halted.stop))
 
 -- what frames come to, one after another: so many are drawn, and the next one is refused; or all are drawn
-abbrev pub FramesVerdict : List Frame → List Text → ℕ → Fault → Type 0
-FramesVerdict [] texts count verdict = (count ≡ 0) × (verdict ≡ Done)
-FramesVerdict (frame ∷ frames) texts zero verdict = FrameVerdict frame texts verdict × (verdict ≢ Done)
-FramesVerdict (frame ∷ frames) texts (suc count) verdict = FrameVerdict frame texts Done × FramesVerdict frames texts count verdict
+abbrev pub FramesVerdict : List Frame → List Text → ℕ → Verdict → Type 0
+FramesVerdict [] texts count verdict = (count ≡ 0) × (verdict ≡ done [])
+FramesVerdict (frame ∷ frames) texts zero verdict = FrameVerdict frame texts verdict × (verdict.fault ≢ Done)
+FramesVerdict (frame ∷ frames) texts (suc count) verdict = (messages : List ℕ) × (rest : Verdict) × FrameVerdict frame texts (done messages) × FramesVerdict frames texts count rest × (verdict ≡ behind messages rest)
 
--- so many of the frames are drawn, one after another
-abbrev pub AreDrawn : List Frame → List Text → ℕ → Type 0
-AreDrawn frames texts zero = Unit {0}
-AreDrawn [] texts (suc count) = ⊥
-AreDrawn (frame ∷ frames) texts (suc count) = FrameVerdict frame texts Done × AreDrawn frames texts count
+-- so many of the frames are drawn, one after another, with these messages
+abbrev pub AreDrawn : List Frame → List Text → ℕ → List ℕ → Type 0
+AreDrawn frames texts zero messages = messages ≡ []
+AreDrawn [] texts (suc count) messages = ⊥
+AreDrawn (frame ∷ frames) texts (suc count) messages = (first : List ℕ) × (rest : List ℕ) × FrameVerdict frame texts (done first) × AreDrawn frames texts count rest × (messages ≡ first ++ rest)
+
+-- the directives of the frame behind so many are carried out, with these messages
+abbrev pub NextSays : List Frame → List Text → ℕ → List ℕ → Type 0
+NextSays [] texts count messages = ⊥
+NextSays (frame ∷ frames) texts zero messages = (found : Handed) × IsExpanded frame texts found × (messages ≡ found.messages)
+NextSays (frame ∷ frames) texts (suc count) messages = NextSays frames texts count messages
 
 -- what a run comes to: its options are refused, or its frames come to this
-abbrev pub IsVerdict : Result Plan OptionRefusal → List Text → ℕ → Fault → Type 0
-IsVerdict (Err refusal) texts count verdict = (count ≡ 0) × (verdict ≡ option_fault refusal)
+abbrev pub IsVerdict : Result Plan OptionRefusal → List Text → ℕ → Verdict → Type 0
+IsVerdict (Err refusal) texts count verdict = (count ≡ 0) × (verdict ≡ refused (option_fault refusal) [] [] [])
 IsVerdict (Ok plan) texts count verdict = FramesVerdict (frames_in (Ok plan)) texts count verdict
 
 -- an answer, and the count of frames that are finished, is the verdict; or one of the outside: a text can't be read, there
--- is no memory, or the storage fails for a frame that is drawn. The finished frames are drawn then too
+-- is no memory, the storage fails for a frame that is drawn, or the sink for one whose directives are carried out. The
+-- finished frames are drawn then too
 abbrev pub IsCaused : Result Plan OptionRefusal → List Text → ℕ → Fault → Type 0
-IsCaused asked texts finished TextFault = AreDrawn (frames_in asked) texts finished
-IsCaused asked texts finished NoMemory = AreDrawn (frames_in asked) texts finished
-IsCaused asked texts finished ShelfFault = AreDrawn (frames_in asked) texts (finished + 1)
-IsCaused asked texts finished answer = IsVerdict asked texts finished answer
+IsCaused asked texts finished TextFault = (messages : List ℕ) × AreDrawn (frames_in asked) texts finished messages
+IsCaused asked texts finished NoMemory = (messages : List ℕ) × AreDrawn (frames_in asked) texts finished messages
+IsCaused asked texts finished ShelfFault = (messages : List ℕ) × AreDrawn (frames_in asked) texts (finished + 1) messages
+IsCaused asked texts finished MessageFault = (messages next : List ℕ) × AreDrawn (frames_in asked) texts finished messages × NextSays (frames_in asked) texts finished next
+IsCaused asked texts finished answer = (verdict : Verdict) × IsVerdict asked texts finished verdict × (answer ≡ verdict.fault)
 
 -- a fault behind the options
 abbrev pub IsFrameFault : Fault → Type 0

@@ -1,14 +1,17 @@
 // What one layer answers, in the words of the next.
 ghost use Rattle.std.specs.Prelude.{◌≡◌};
 ghost use Rattle.povfix.specs.declared.outcome.Fault.TheVariants.{NoMemory, ShelfFault};
-ghost use Rattle.povfix.specs.Conversions.{hold_fault, lex_fault, option_fault, parse_fault, status_of};
+ghost use Rattle.povfix.specs.Conversions.{error_text, expression_fault, hold_fault, lex_fault, option_fault, parse_fault, status_of, stop_fault};
 
 use crate::outcome::Fault;
 use crate::refusal::Refusal;
+use directive_machine::Stop;
+use fix_math::Str;
 use options::OptionFault;
+use scene_expr::ExprFault;
 use scene_lexer::LexFault;
 use shelf::HoldFail;
-use std::alloc::AllocError;
+use std::alloc::{AllocError, Global};
 
 impl From<OptionFault> for Fault {
     ghost from_gives = { λ refusal fault. fault ≡ option_fault refusal };
@@ -40,6 +43,39 @@ impl From<LexFault> for Fault {
             LexFault::NumberRange(place) => Fault::SceneFault(b'L', 5, place),
             LexFault::NoMemory => Fault::NoMemory,
         }
+    }
+}
+
+impl From<ExprFault> for Fault {
+    ghost from_gives = { λ found fault. fault ≡ expression_fault found };
+
+    fn from(found: ExprFault) -> Fault {
+        match found {
+            ExprFault::Expected(place) => Fault::SceneFault(b'E', 1, place),
+            ExprFault::UnknownName(place) => Fault::SceneFault(b'E', 2, place),
+            ExprFault::Kind(place) => Fault::SceneFault(b'E', 3, place),
+            ExprFault::ZeroDivisor(place) => Fault::SceneFault(b'E', 4, place),
+            ExprFault::Range(place) => Fault::SceneFault(b'E', 5, place),
+            ExprFault::NoMemory => Fault::NoMemory,
+        }
+    }
+}
+
+/// The fault at which an expansion stops, and the text of an `#error`.
+pub fn of_stop(alloc: Global, stop: Stop) -> (Fault, Str)
+    ensures fault { result.0 ≡ stop_fault stop }
+    ensures text { result.1 ≡ error_text stop }
+{
+    let none = Str::new(Vec::new(alloc));
+    match stop {
+        Stop::Lex(found) => (Fault::from(found), none),
+        Stop::Expr(found) => (Fault::from(found), none),
+        Stop::Directive { kind, place } => (Fault::SceneFault(b'D', kind, place), none),
+        Stop::Absent { name, .. } => (Fault::Absent(name), none),
+        Stop::TextFault => (Fault::TextFault, none),
+        Stop::UserError { text, place } => (Fault::SceneFault(b'U', 6, place), text),
+        Stop::Limit { which, place } => (Fault::Limit(which, place), none),
+        Stop::NoMemory => (Fault::NoMemory, none),
     }
 }
 
@@ -87,6 +123,7 @@ pub fn status(fault: &Fault) -> u8
         Fault::Absent(_) => 4,
         Fault::TextFault => 5,
         Fault::ShelfFault => 7,
+        Fault::MessageFault => 8,
         Fault::NoMemory => 9,
     }
 }

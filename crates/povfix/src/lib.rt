@@ -2,6 +2,8 @@
 #![tactic(auto)]
 
 mod conversions;
+mod ending;
+mod expansion;
 mod frame_trace;
 mod grammar;
 mod law;
@@ -16,7 +18,7 @@ mod scene;
 mod store;
 
 pub use directive_machine::{FolderTexts, MemTexts, ReadFail, Text, Texts};
-pub use law::one_meaning;
+pub use law::{one_meaning, one_verdict};
 pub use options::{OptionFault, Plan, Where};
 pub use outcome::{Fault, Outcome, Traced};
 pub use render::run;

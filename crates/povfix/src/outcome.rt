@@ -10,7 +10,8 @@ pub enum Fault {
     Done,
     /// The options are refused: the kind, and the word or line.
     OptionFault(u8, Where),
-    /// The scene is refused: the letter of what found it, the kind there, and the place.
+    /// The scene is refused: the letter of what found it, the kind there, and the place. The letters are L for the
+    /// tokens, E for an expression of a directive, D for a directive, U for an `#error`, and P for the items.
     SceneFault(u8, u8, Place),
     /// A count passes its limit: the number of the limit, and the place.
     Limit(u8, Place),
@@ -20,6 +21,8 @@ pub enum Fault {
     TextFault,
     /// The storage failed; its count of faults rose.
     ShelfFault,
+    /// The messages of a frame couldn't be written; the sink's count of faults rose.
+    MessageFault,
     /// There is no memory.
     NoMemory,
 }

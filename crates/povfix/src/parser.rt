@@ -1,5 +1,5 @@
 // Reads the items of a scene from its tokens.
-ghost use Rattle.std.specs.Prelude.{◌≡◌, ◌≢◌, ◌≤◌, ◌<◌, ◌+◌, IfOk, IfErr, Result, Ok, Err, length};
+ghost use Rattle.std.specs.Prelude.{◌≡◌, ◌≢◌, ◌≤◌, ◌<◌, ◌^◌, ◌+◌, IfOk, IfErr, Result, Ok, Err, length};
 ghost use Rattle.scene_expr.specs.Values.{AreWhole};
 ghost use Rattle.povfix.specs.Grammar.{IsBackground, IsSphere, IsItemAt, IsScene};
 ghost use Rattle.povfix.specs.Marks.{fits_at, marks_of, passed_marks};
@@ -122,7 +122,7 @@ pub fn parse(alloc: Global, tokens: &[Token], set: &Settings) -> Result<Scene, R
     requires { AreWhole set.now }
     ensures scene { IfOk result (λ scene. IsScene tokens.now set.now (Ok scene)) }
     ensures refusal { IfErr result (λ r. r ≢ NoMemory → IsScene tokens.now set.now (Err r)) }
-    ensures few { IfOk result (λ scene. length scene.balls ≤ length tokens.now) }
+    ensures few { IfOk result (λ scene. length scene.balls < 2 ^ 32) }
 {
     let mut scene = Scene::new(alloc);
     let mut at = 0;

@@ -1,11 +1,14 @@
 // What a run says of how it ends.
-ghost use Rattle.std.specs.Prelude.{◌≡◌, ◌⊎◌, ◌++◌, ℕ, List, IfOk, OnOk};
+ghost use Rattle.std.specs.Prelude.{◌≡◌, ◌≤◌, ◌⊎◌, ◌++◌, ℕ, List, [], IfOk, IsErr, OnErr, OnOk};
 ghost use Rattle.std.specs.Fmt.{decimal};
-ghost use Rattle.povfix.specs.Lines.{absent_line, limit_line, line_of, option_line, place_end, scene_line, where_line, IsPlaced, IsReported, Says};
+ghost use Rattle.shelf.specs.Causes.{HasCause};
+ghost use Rattle.shelf.specs.Stream.{with_bytes, GrewByLess};
+ghost use Rattle.povfix.specs.Lines.{absent_line, limit_line, line_left, line_of, messages_left, option_line, place_line, scene_line, text_line, where_line, IsPlaced, IsReported, Says};
 
+use crate::ending::Ending;
 use crate::outcome::Fault;
 use options::Where;
-use shelf::Sink;
+use shelf::{Failed, Sink};
 use std::alloc::{AllocError, Global};
 
 fn push_number(alloc: Global, line: &mut Vec<u8>, number: u32) -> Result<(), AllocError>
@@ -31,20 +34,25 @@ fn push_where(alloc: Global, line: &mut Vec<u8>, place: Where) -> Result<(), All
     }
 }
 
-/// Puts the place in the scene text and the line feed after what the line says.
-fn end_with_place(
-    alloc: Global,
-    line: &mut Vec<u8>,
-    scene: &[u8],
-    number: u32,
-) -> Result<(), AllocError>
-    ensures { OnOk result (line.new.items ≡ line.old.items ++ place_end scene.now number) }
+/// Puts the place in a scene text behind what the line says.
+fn push_place(alloc: Global, line: &mut Vec<u8>, name: &[u8], number: u32) -> Result<(), AllocError>
+    ensures { OnOk result (line.new.items ≡ line.old.items ++ place_line name.now number) }
 {
     line.extend_from_slice(b" at ")?;
-    line.extend_from_slice(scene)?;
+    line.extend_from_slice(name)?;
     line.extend_from_slice(b":")?;
-    push_number(alloc, line, number)?;
-    line.extend_from_slice(b"\n")
+    push_number(alloc, line, number)
+}
+
+/// Puts the text of an error of the scene's maker behind its place.
+fn push_text(line: &mut Vec<u8>, letter: u8, text: &[u8]) -> Result<(), AllocError>
+    ensures { OnOk result (line.new.items ≡ line.old.items ++ text_line letter text.now) }
+{
+    if letter == b'U' {
+        line.push(b' ')?;
+        line.extend_from_slice(text)?;
+    }
+    Ok(())
 }
 
 fn option_line(alloc: Global, kind: u8, place: Where) -> Result<Vec<u8>, AllocError>
@@ -61,28 +69,32 @@ fn option_line(alloc: Global, kind: u8, place: Where) -> Result<Vec<u8>, AllocEr
 
 fn scene_line(
     alloc: Global,
-    scene: &[u8],
+    name: &[u8],
+    text: &[u8],
     letter: u8,
     kind: u8,
     number: u32,
 ) -> Result<Vec<u8>, AllocError>
-    ensures { IfOk result (λ line. line.items ≡ scene_line scene.now letter kind number) }
+    ensures { IfOk result (λ line. line.items ≡ scene_line name.now text.now letter kind number) }
 {
     let mut line = Vec::new(alloc);
     line.extend_from_slice(b"scene fault ")?;
     line.push(letter)?;
     push_number(alloc, &mut line, u32::from(kind))?;
-    end_with_place(alloc, &mut line, scene, number)?;
+    push_place(alloc, &mut line, name, number)?;
+    push_text(&mut line, letter, text)?;
+    line.extend_from_slice(b"\n")?;
     Ok(line)
 }
 
-fn limit_line(alloc: Global, scene: &[u8], which: u8, number: u32) -> Result<Vec<u8>, AllocError>
-    ensures { IfOk result (λ line. line.items ≡ limit_line scene.now which number) }
+fn limit_line(alloc: Global, name: &[u8], which: u8, number: u32) -> Result<Vec<u8>, AllocError>
+    ensures { IfOk result (λ line. line.items ≡ limit_line name.now which number) }
 {
     let mut line = Vec::new(alloc);
     line.extend_from_slice(b"limit ")?;
     push_number(alloc, &mut line, u32::from(which))?;
-    end_with_place(alloc, &mut line, scene, number)?;
+    push_place(alloc, &mut line, name, number)?;
+    line.extend_from_slice(b"\n")?;
     Ok(line)
 }
 
@@ -96,9 +108,24 @@ fn absent_line(alloc: Global, name: &[u8]) -> Result<Vec<u8>, AllocError>
     Ok(line)
 }
 
+/// Writes bytes, and leaves the sink alone where there are none.
+pub fn write_if_any<K: Sink>(sink: &mut K, bytes: &[u8]) -> Result<(), Failed>
+    ensures all { OnOk result (K.written sink.new ≡ with_bytes (K.written sink.old) bytes.now) }
+    ensures part { OnErr result (GrewByLess (K.written sink.old) (K.written sink.new) bytes.now) }
+    ensures cause { HasCause (K.faults sink.old) (K.faults sink.new) (IsErr result) }
+    ensures quiet { bytes.now ≡ [] → sink.new ≡ sink.old }
+{
+    if bytes.is_empty() {
+        return Ok(());
+    }
+    sink.write(bytes)?;
+    Ok(())
+}
+
 /// Writes a line. Where the sink fails, it has a part of it.
 fn say<K: Sink>(messages: &mut K, line: &[u8])
-    ensures { Says (K.written messages.old) (K.written messages.new) (K.faults messages.old) (K.faults messages.new) line.now }
+    ensures said { Says (K.written messages.old) (K.written messages.new) (K.faults messages.old) (K.faults messages.new) line.now }
+    ensures later { K.faults messages.old ≤ K.faults messages.new }
 {
     match messages.write(line) {
         Ok(()) => {}
@@ -109,7 +136,7 @@ fn say<K: Sink>(messages: &mut K, line: &[u8])
 /// Writes the line of a fault, or that there is no memory for it, which takes the fault's place.
 fn say_placed<K: Sink>(messages: &mut K, line: Result<Vec<u8>, AllocError>, fault: Fault) -> Fault
     ensures reported { (bytes : List ℕ) → IfOk line (λ written. written.items ≡ bytes) → IsReported (K.written messages.old) (K.written messages.new) (K.faults messages.old) (K.faults messages.new) bytes fault result }
-    ensures quiet { result ≡ Fault.Done → fault ≡ Fault.Done }
+    ensures later { K.faults messages.old ≤ K.faults messages.new }
 {
     match line {
         Ok(line) => {
@@ -123,12 +150,18 @@ fn say_placed<K: Sink>(messages: &mut K, line: Result<Vec<u8>, AllocError>, faul
     }
 }
 
-/// Writes the line of a fault to the sink, with the name of the scene text, and nothing at all where all is done. Where
-/// there is no memory for the line, that is the fault.
-pub fn report<K: Sink>(alloc: Global, messages: &mut K, scene: &[u8], fault: Fault) -> Fault
-    ensures said { Says (K.written messages.old) (K.written messages.new) (K.faults messages.old) (K.faults messages.new) (line_of scene.now result) }
-    ensures quiet { result ≡ Fault.Done → messages.new ≡ messages.old }
+/// Writes the line of a fault to the sink, with the name of the text in which it stands and the text of an error, and
+/// nothing where messages couldn't be written. Where there is no memory for the line, that is the fault.
+fn report_line<K: Sink>(
+    alloc: Global,
+    messages: &mut K,
+    name: &[u8],
+    text: &[u8],
+    fault: Fault,
+) -> Fault
+    ensures said { Says (K.written messages.old) (K.written messages.new) (K.faults messages.old) (K.faults messages.new) (line_of name.now text.now result) }
     ensures fault { (result ≡ fault) ⊎ ((result ≡ Fault.NoMemory) × IsPlaced fault) }
+    ensures later { K.faults messages.old ≤ K.faults messages.new }
 {
     match fault {
         Fault::Done => Fault::Done,
@@ -137,16 +170,16 @@ pub fn report<K: Sink>(alloc: Global, messages: &mut K, scene: &[u8], fault: Fau
             say_placed(messages, line, Fault::OptionFault(kind, place))
         }
         Fault::SceneFault(letter, kind, place) => {
-            let line = scene_line(alloc, scene, letter, kind, place.line);
+            let line = scene_line(alloc, name, text, letter, kind, place.line);
             say_placed(messages, line, Fault::SceneFault(letter, kind, place))
         }
         Fault::Limit(which, place) => {
-            let line = limit_line(alloc, scene, which, place.line);
+            let line = limit_line(alloc, name, which, place.line);
             say_placed(messages, line, Fault::Limit(which, place))
         }
-        Fault::Absent(name) => {
-            let line = absent_line(alloc, name.bytes());
-            say_placed(messages, line, Fault::Absent(name))
+        Fault::Absent(absent) => {
+            let line = absent_line(alloc, absent.bytes());
+            say_placed(messages, line, Fault::Absent(absent))
         }
         Fault::TextFault => {
             say(messages, b"text fault\n");
@@ -156,9 +189,32 @@ pub fn report<K: Sink>(alloc: Global, messages: &mut K, scene: &[u8], fault: Fau
             say(messages, b"shelf fault\n");
             Fault::ShelfFault
         }
+        Fault::MessageFault => Fault::MessageFault,
         Fault::NoMemory => {
             say(messages, b"no memory\n");
             Fault::NoMemory
         }
+    }
+}
+
+/// Writes what is left to say of a fault to the sink: the messages up to it, and its line where these could be written.
+pub fn report<K: Sink>(alloc: Global, messages: &mut K, ending: Ending) -> Fault
+    ensures said { Says (K.written messages.old) (K.written messages.new) (K.faults messages.old) (K.faults messages.new) (messages_left ending.report ++ line_left ending.report result) }
+    ensures fault { (result ≡ ending.fault) ⊎ ((result ≡ Fault.NoMemory) × IsPlaced ending.fault) }
+    ensures later { K.faults messages.old ≤ K.faults messages.new }
+{
+    let Ending { fault, report } = ending;
+    match report {
+        Some(report) => match write_if_any(messages, &report.messages) {
+            Ok(()) => report_line(
+                alloc,
+                messages,
+                report.name.bytes(),
+                report.text.bytes(),
+                fault,
+            ),
+            Err(_) => fault,
+        },
+        None => report_line(alloc, messages, b"", b"", fault),
     }
 }

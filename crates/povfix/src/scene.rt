@@ -1,5 +1,5 @@
 // A scene as it is drawn today.
-ghost use Rattle.std.specs.Prelude.{◌≡◌, OnOk};
+ghost use Rattle.std.specs.Prelude.{◌≡◌, ◌<◌, ◌^◌, length, OnOk};
 ghost use Rattle.povfix.specs.Ranges.{IsColour};
 ghost use Rattle.povfix.specs.Grammar.{with_item};
 ghost use Rattle.povfix.specs.Scenes.{nothing};
@@ -125,13 +125,21 @@ impl Scene {
         }
     }
 
-    /// Draws an item too: a later background counts, and a ball stands behind the others in the order.
+    /// Draws an item too: a later background counts, and a ball stands behind the others in the order. The numbers of
+    /// balls have 32 bits, and where they are used up there is no memory for a further one.
     pub(crate) fn add(&mut self, item: Item) -> Result<(), AllocError>
-        ensures { OnOk result (self.new ≡ with_item item self.old) }
+        requires few { length self.old.balls < 2 ^ 32 }
+        ensures drawn { OnOk result (self.new ≡ with_item item self.old) }
+        ensures few { OnOk result (length self.new.balls < 2 ^ 32) }
     {
         match item {
             Item::Background(colour) => self.background = colour,
-            Item::Ball(ball) => self.balls.push(ball)?,
+            Item::Ball(ball) => {
+                if self.balls.len() == u32::MAX as usize {
+                    return Err(AllocError);
+                }
+                self.balls.push(ball)?;
+            }
         }
         Ok(())
     }

@@ -21,6 +21,30 @@ pub fn asked(alloc: Global, words: &[&str]) -> Result<Vec<String>, AllocError> {
     Ok(asked)
 }
 
+/// Runs the words over texts by their names, of which the reading of a number fails, storage without files, and a sink
+/// with so much room.
+pub fn tried(
+    rt: &(impl Threads + Sync),
+    alloc: Global,
+    words: &[&str],
+    texts: &[(&str, &[u8])],
+    room: u64,
+    failing: Option<u64>,
+) -> Result<Left, AllocError> {
+    let asked = asked(alloc, words)?;
+    let mut held = MemTexts::new(alloc);
+    for (name, bytes) in texts {
+        held.add(alloc, name.as_bytes(), bytes)?;
+    }
+    if let Some(call) = failing {
+        held.fail_on(call);
+    }
+    let mut told = MemSink::with_room(alloc, room)?;
+    let shelf = MemShelf::new(alloc);
+    let outcome = run(rt, alloc, &asked, &mut held, shelf, &mut told);
+    Ok(Left { outcome, told })
+}
+
 /// Runs the words over texts by their names, storage without files, and a sink with room.
 pub fn rendered(
     rt: &(impl Threads + Sync),
@@ -28,15 +52,7 @@ pub fn rendered(
     words: &[&str],
     texts: &[(&str, &[u8])],
 ) -> Result<Left, AllocError> {
-    let asked = asked(alloc, words)?;
-    let mut held = MemTexts::new(alloc);
-    for (name, bytes) in texts {
-        held.add(alloc, name.as_bytes(), bytes)?;
-    }
-    let mut told = MemSink::with_room(alloc, 1000)?;
-    let shelf = MemShelf::new(alloc);
-    let outcome = run(rt, alloc, &asked, &mut held, shelf, &mut told);
-    Ok(Left { outcome, told })
+    tried(rt, alloc, words, texts, 1000, None)
 }
 
 fn placed(alloc: Global, before: &str, kind: u8, place: Place) -> Result<String, AllocError> {
@@ -52,6 +68,9 @@ pub fn shown(alloc: Global, fault: &Fault) -> Result<String, AllocError> {
         Fault::Done => String::from_str(alloc, "done"),
         Fault::OptionFault(..) => String::from_str(alloc, "option fault"),
         Fault::SceneFault(b'L', kind, place) => placed(alloc, "L", *kind, *place),
+        Fault::SceneFault(b'E', kind, place) => placed(alloc, "E", *kind, *place),
+        Fault::SceneFault(b'D', kind, place) => placed(alloc, "D", *kind, *place),
+        Fault::SceneFault(b'U', kind, place) => placed(alloc, "U", *kind, *place),
         Fault::SceneFault(b'P', kind, place) => placed(alloc, "P", *kind, *place),
         Fault::SceneFault(..) => String::from_str(alloc, "another letter"),
         Fault::Limit(which, place) => placed(alloc, "limit ", *which, *place),
@@ -61,6 +80,7 @@ pub fn shown(alloc: Global, fault: &Fault) -> Result<String, AllocError> {
         }
         Fault::TextFault => String::from_str(alloc, "text fault"),
         Fault::ShelfFault => String::from_str(alloc, "shelf fault"),
+        Fault::MessageFault => String::from_str(alloc, "message fault"),
         Fault::NoMemory => String::from_str(alloc, "no memory"),
     }
 }

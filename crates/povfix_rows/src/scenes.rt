@@ -56,7 +56,7 @@ const FORMS: [(&[u8], &str); 16] = [
     (b"\xef\xbb\xbf\nx", "P2 0@4:2"),
     (b"Background { rgb <1,1,1> }", "P2 0@0:1"),
     (b".", "P2 0@0:1"),
-    (b"#declare", "P2 0@0:1"),
+    (b"#", "D1 0@0:1"),
     (b"1", "P2 0@0:1"),
     (b"\"a\"", "P2 0@0:1"),
     (b"background", "P2 0@10:1"),

@@ -1,7 +1,7 @@
-use Rattle.std.proofs.Common.{arith, ap, length, subst}
+use Rattle.std.proofs.Common.{subst}
 use Rattle.povfix.specs.Grammar.{IsItems}
 use Rattle.povfix.specs.Scenes.{Scene}
-use Rattle.povfix.proofs.Items.{exit, few_with}
+use Rattle.povfix.proofs.Items.{exit}
 use Rattle.povfix.proofs.parser.parse.Goals as goal
 
 pub returns-in_err-item-clause-refusal : goal.returns-in_err-item-clause-refusal
@@ -11,8 +11,8 @@ returns-in_err-item-clause-refusal c =
 pub items-preserved : goal.items-preserved
 items-preserved c = record {
   within = c.in_ok-item.ensures.within.1;
-  few = omega (arith, few_with c.in_ok-item.item c.items.scene, ap (λ (drawn : Scene). length drawn.balls) c.in_ok-add.ensures, c.items.invariant.few, c.in_ok-item.ensures.within.0);
-  whole = λ r rest. c.items.invariant.whole r (IsItems.further _ _ _ r c.items-test.true c.in_ok-item.ensures.found (subst (λ (drawn : Scene). IsItems c.args.tokens.now c.args.set.now drawn c.in_ok-item.next r) c.in_ok-add.ensures rest));
+  few = c.in_ok-add.ensures.few;
+  whole = λ r rest. c.items.invariant.whole r (IsItems.further _ _ _ r c.items-test.true c.in_ok-item.ensures.found (subst (λ (drawn : Scene). IsItems c.args.tokens.now c.args.set.now drawn c.in_ok-item.next r) c.in_ok-add.ensures.drawn rest));
 }
 
 pub returns-clause-scene : goal.returns-clause-scene

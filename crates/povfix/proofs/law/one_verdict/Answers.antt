@@ -1,0 +1,5 @@
+use Rattle.povfix.proofs.Verdicts.{one_verdict}
+use Rattle.povfix.proofs.law.one_verdict.Goals as goal
+
+pub returns : goal.returns
+returns c = one_verdict c.one_expansion.ensures
