@@ -206,34 +206,29 @@ fi
 cd "$here/folder"
 holds '--help of the real launcher' "$("$POVFIX" --help 2>&1)" '+Iname' '+Wn' 'exit status' 'examples/' 'docs'
 equal '--version of the real launcher' 3 "$("$POVFIX" --version 2>&1 | wc -l)"
-# How long it takes, beside a script of one line that starts the same program; the two in turns, and the least of each.
-# A machine may be slow, or at work with something else: then it is the one line that tells how long a start takes.
-case $(date +%N) in
-    *[!0-9]* | '') skipped 'the time of a start' 'date tells no nanoseconds here' ;;
-    *)
-        program=${POVFIX%/*}/crates/povfix_main/out/povfix_main
-        printf '#!/bin/sh\nexec "%s" "$@"\n' "$program" >"$here/one line"
-        chmod +x "$here/one line"
-        # the hundredths of a millisecond that $1 takes, if that is less than $2
-        least_of() {
-            before=$(date +%s%N)
-            "$1" + 2>/dev/null || true
-            after=$(date +%s%N)
-            took=$(((after - before) / 10000))
-            if [ "$took" -lt "$2" ]; then echo "$took"; else echo "$2"; fi
-        }
-        launcher=1000000 alone=1000000
-        for _ in 1 2 3 4 5 6 7 8 9 10 11 12 13 14 15 16 17 18 19 20 21 22 23 24 25 26 27 28 29 30; do
-            launcher=$(least_of "$POVFIX" "$launcher")
-            alone=$(least_of "$here/one line" "$alone")
+# What a start takes of the processor, beside a script of one line that starts the same program: where the machine is slow, or at
+# work with something else, it is the one line that tells how long a start takes.
+program=${POVFIX%/*}/crates/povfix_main/out/povfix_main
+printf '#!/bin/sh\nexec "%s" "$@"\n' "$program" >"$here/one line"
+chmod +x "$here/one line"
+# the hundredths of a millisecond of processor time that a start takes, by fifty of them
+taken() {
+    {
+        for _ in 1 2 3 4 5; do
+            for _ in 1 2 3 4 5 6 7 8 9 10; do
+                "$1" + 2>/dev/null || true
+            done
         done
-        milliseconds() { printf '%d.%02d ms' $(($1 / 100)) $(($1 % 100)); }
-        name="it starts the program in less than 10 ms, or in at most three times what one line takes"
-        name="$name ($(milliseconds "$launcher") and $(milliseconds "$alone"))"
-        if [ "$launcher" -lt 1000 ] || [ "$launcher" -le $((3 * alone)) ]; then
-            passed "$name"
-        else
-            failed "$name" 'it takes longer'
-        fi
-        ;;
-esac
+        times
+    } | awk 'NR == 2 { for (side = 1; side <= 2; side++) { split($side, at, /[ms]/); sum += at[1] * 60 + at[2] } printf "%d", sum * 2000 }'
+}
+milliseconds() { printf '%d.%02d ms' $(($1 / 100)) $(($1 % 100)); }
+launcher=$(taken "$POVFIX")
+alone=$(taken "$here/one line")
+name="it starts the program in less than 10 ms, or in at most six times what one line takes"
+name="$name ($(milliseconds "$launcher") and $(milliseconds "$alone") of the processor)"
+if [ "$launcher" -lt 1000 ] || [ "$launcher" -le $((6 * alone)) ]; then
+    passed "$name"
+else
+    failed "$name" 'it takes longer'
+fi
