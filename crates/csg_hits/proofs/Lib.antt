@@ -10,3 +10,6 @@ pub mod Copies
 pub mod Facing
 pub mod Numbered
 pub mod Scanned
+mod Bounded
+mod Extents
+mod Rowed

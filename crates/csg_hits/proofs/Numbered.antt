@@ -110,7 +110,7 @@ object_struck leaves objects ray shadow n x lt e alike t m =
     let there : slice_get objects n ≡ Some x = slice_get_read objects (length objects) n x refl lt e in
     let at : slice_get (objects_of objects) n ≡ Some x.object.value = slice_get-map v objects n ∙ ap (λ (o : Option ReadyObject). option_map v o) there in
     ap (λ (o : Option Object). struck_of (plain leaves objects) ray shadow t (n - length (objects_of objects)) m o) at
-    ∙ ap (λ (w : Sides). counts shadow x.object.value.no_shadow && w.strikes m) (sym (alike (leaf_on leaves ray t)))
+    ∙ ap (λ (w : Sides). counts shadow x.object.value.no_shadow && w.strikes m) (sym (alike.crossed (leaf_on leaves ray t)))
 
 pub counted : (leaves : List Leaf) (objects : List ReadyObject) (ray : Ray) (shadow : Bool) (n : ℕ) (x : ReadyObject) → n < length objects → x ≡ get_or objects n x → AreAlike x.shape x.object.value.shape → counts shadow x.object.value.no_shadow ≡ true
     → (t m : ℕ) → is_struck (plain leaves objects) ray shadow t n m ≡ (shape_on leaves ray x.shape t).strikes m

@@ -6,3 +6,4 @@ pub mod Hits
 pub mod Rows
 pub mod Outlooks
 pub mod Ready
+pub mod Bounds

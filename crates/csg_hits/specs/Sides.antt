@@ -1,17 +1,16 @@
 -- What a shape is before a number of a ray and at it, and which of its leaves are struck between the two.
 -- (Reference manual, constructive solid geometry)
 use lib.Dec.{eqb}
-use Rattle.std.specs.Prelude.{ℕ, ◌≡◌, Bool, true, false, ◌&&◌, ◌||◌, not, List, [], ◌∷◌, map}
-use Rattle.std.specs.Bool.{beq}
-use Rattle.std.specs.List.{list_any, list_all}
+use Rattle.std.specs.Prelude.{ℕ, ◌≡◌, Bool, true, false, ◌&&◌, ◌||◌, List, map}
+use Rattle.std.specs.List.{list_any}
 use Rattle.scene_model.specs.declared.shape.Op.{Op}
 use Rattle.scene_model.specs.declared.shape.Shape.{Shape}
 use Rattle.scene_model.specs.declared.shape.Shape.TheOpen.{Shape-F}
 use Rattle.scene_model.specs.declared.shape.Shape.TheFolds.{fold-Shape}
-
--- exactly one of two
-abbrev pub differ : Bool → Bool → Bool
-differ a b = not (beq a b)
+use Rattle.leaf_boxes.specs.declared.bounds.Box3.{Box3}
+use Rattle.leaf_boxes.specs.Groups.{shape_box_of}
+use Rattle.leaf_boxes.specs.Holding.{shape_holds}
+pub use Rattle.leaf_boxes.specs.Holding.{differ, with_others, group_holds}
 
 -- of a leaf: whether it holds before a number, whether it holds at it, and whether it is struck there
 pub record Crossing : Type 0 where
@@ -28,17 +27,6 @@ pub record Sides : Type 0 where
 -- a shape that holds nowhere
 abbrev pub nowhere : Sides
 nowhere = record { before = false; now = false; strikes = λ n. false }
-
--- whether a group holds, by its first part and the others: where a part does, where all do, or where the first and no other does
-abbrev pub with_others : Op → Bool → List Bool → Bool
-with_others Op.Union first others = first || list_any (λ b. b) others
-with_others Op.Merge first others = first || list_any (λ b. b) others
-with_others Op.Intersection first others = first && list_all (λ b. b) others
-with_others Op.Difference first others = first && not (list_any (λ b. b) others)
-
-abbrev pub group_holds : Op → List Bool → Bool
-group_holds op [] = false
-group_holds op (first ∷ others) = with_others op first others
 
 -- whether a group is struck where its parts are: a union always, a merge where it begins or ends to hold itself, the others where they hold before or now
 abbrev pub keeps : Op → Bool → Bool → Bool
@@ -74,6 +62,8 @@ sides_step leaf (Shape-F.Group op parts inverse) = as_group op inverse (together
 abbrev pub sides : (ℕ → Crossing) → Shape → Sides
 sides leaf = fold-Shape Sides (sides_step leaf)
 
--- two shapes that can't be told apart
-abbrev pub AreAlike : Shape → Shape → Type 0
-AreAlike a b = (leaf : ℕ → Crossing) → sides leaf a ≡ sides leaf b
+-- two shapes that can't be told apart: by where they are struck and hold, and by their boxes
+pub record AreAlike (a b : Shape) : Type 0 where
+  pub crossed : (leaf : ℕ → Crossing) → sides leaf a ≡ sides leaf b
+  pub held : (leaf : ℕ → Bool) → shape_holds leaf a ≡ shape_holds leaf b
+  pub boxed : (boxes : List Box3) → shape_box_of boxes a ≡ shape_box_of boxes b

@@ -9,9 +9,10 @@ use Rattle.scene_model.specs.declared.scene.Sheet.{Sheet}
 use Rattle.scene_model.specs.declared.shape.Leaf.{Leaf}
 use Rattle.scene_model.specs.declared.shape.Shape.{Shape}
 use Rattle.shapes.specs.declared.ray.Ray.{Ray}
-use Rattle.shapes.specs.Faces.{faces_of, all_hold, first_failing, seen_from}
+use Rattle.shapes.specs.Faces.{faces_of, first_failing, seen_from}
 use Rattle.shapes.specs.Rays.{Position, point_at}
 use Rattle.shapes.specs.Solids.{is_uncapped}
+pub use Rattle.leaf_boxes.specs.Holding.{solid_holds, leaf_holds}
 use Rattle.csg_hits.specs.Sides.{Crossing, Sides, differ, sides}
 
 pub record Surfaces : Type 0 where
@@ -27,13 +28,6 @@ abbrev pub without_sheets : Surfaces → Surfaces
 without_sheets surfaces = record { leaves = surfaces.leaves; objects = surfaces.objects; sheets = [] }
 
 -- ---- leaves
-
--- whether a leaf's solid holds at a point, and whether the leaf does: negated where it is inverse
-abbrev pub solid_holds : Leaf → Position → Bool
-solid_holds leaf p = all_hold (faces_of leaf p)
-
-abbrev pub leaf_holds : Leaf → Position → Bool
-leaf_holds leaf p = differ (solid_holds leaf p) leaf.inverse
 
 -- whether face 0 holds: the side of a cylinder or cone
 abbrev pub first_holds : List Bool → Bool

@@ -8,6 +8,7 @@ use crate::ready::{ReadyLeaf, ReadyObject};
 use crate::scratch::Scratch;
 use crate::search::Strike;
 use crate::world::Hit;
+use leaf_boxes::{Box3, shape_box, whole_world};
 use scene_model::Scene;
 use shapes::{Path, Ray};
 use std::alloc::{AllocError, Global};
@@ -25,6 +26,7 @@ impl Built {
     ghost use Rattle.std.specs.List.{All};
     ghost use Rattle.scene_model.specs.Solids.{IsLeaf};
     ghost use Rattle.shapes.specs.Rays.{IsInWorld, IsRayDirection, point_at};
+    ghost use Rattle.csg_hits.specs.Bounds.{HoldsInside, IsBounded, bounds_of};
     ghost use Rattle.csg_hits.specs.Hits.{Fits};
     ghost use Rattle.csg_hits.specs.Outlooks.{IsFirstIn, IsQuiet};
     ghost use Rattle.csg_hits.specs.Ready.{surfaces_in};
@@ -49,6 +51,19 @@ impl Built {
         ensures { result ≡ length (surfaces_in self.now).objects }
     {
         self.objects.len() as u32
+    }
+
+    /// The box of an object, along the world's axes; of a number that no object has the world. It takes
+    /// no memory, and is worked out of the leaves' boxes at each call.
+    pub fn bounds(&self, object: u32) -> Box3
+        ensures value { result ≡ bounds_of (surfaces_in self.now) object }
+        ensures inside { HoldsInside (surfaces_in self.now) object result }
+        ensures struck { IsBounded (surfaces_in self.now) object result }
+    {
+        match self.objects.get(object as usize) {
+            Some(object) => shape_box(&object.shape, &self.leaves),
+            None => whole_world(),
+        }
     }
 
     /// The first strike of an object, from a number on, on a path; none exactly where there is none.

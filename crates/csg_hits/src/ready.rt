@@ -6,23 +6,26 @@ ghost use Rattle.scene_model.specs.declared.scene.Object.{Object};
 ghost use Rattle.shapes.specs.Faces.{all_hold, faces_of};
 ghost use Rattle.shapes.specs.Rays.{IsInWorld, Position, position_of};
 ghost use Rattle.shapes.specs.Solids.{is_uncapped, solid_faces, solid_side};
+ghost use Rattle.leaf_boxes.specs.Boxes.{IsInBox, box_of};
 ghost use Rattle.csg_hits.specs.Rows.{IsRowOf};
 ghost use Rattle.csg_hits.specs.Sides.{AreAlike, differ};
-ghost use Rattle.csg_hits.specs.Surfaces.{counts, face_of, first_holds, solid_holds};
+ghost use Rattle.csg_hits.specs.Surfaces.{counts, face_of, first_holds, leaf_holds, solid_holds};
 
 use crate::row::Row;
+use leaf_boxes::{Box3, Boxed, leaf_box};
 use scene_model::{Leaf, Object, Shape};
 use shapes::{Path, Point, Solid, solid};
 use std::alloc::{AllocError, Global};
 use std::snapshot::Snapshot;
 
-/// A leaf with its solid.
+/// A leaf with its solid and its box.
 #[derive(Drop)]
 pub struct ReadyLeaf {
     solid: Solid,
     uncapped: bool,
     inverse: bool,
     pub negated: bool,
+    bounds: Box3,
     /// The leaf of the scene.
     pub leaf: Snapshot<Leaf>,
     ghost faces: { (p : Position) → solid_faces solid p ≡ faces_of leaf.value p },
@@ -30,6 +33,8 @@ pub struct ReadyLeaf {
     ghost is_uncapped: { uncapped ≡ is_uncapped leaf.value.prim },
     ghost is_inverse: { inverse ≡ leaf.value.inverse },
     ghost is_negated: { negated ≡ leaf.value.negated },
+    ghost is_bounds: { bounds ≡ box_of leaf.value },
+    ghost inside: { (p : Position) → IsInWorld p → leaf_holds leaf.value p ≡ true → IsInBox bounds p },
 }
 
 /// An object with a shape of its own.
@@ -98,6 +103,7 @@ impl ReadyLeaf {
             uncapped: solid.is_open(),
             inverse: leaf.inverse,
             negated: leaf.negated,
+            bounds: leaf_box(leaf),
             leaf: Snapshot::of(leaf),
         }
     }
@@ -133,5 +139,13 @@ impl ReadyLeaf {
             Some(face) => (face, true),
             None => (self.solid.failing_face(here).unwrap_or(0), false),
         }
+    }
+}
+
+impl Boxed for ReadyLeaf {
+    ghost extent = { λ leaf. leaf.bounds };
+
+    fn bounds(&self) -> Box3 {
+        self.bounds
     }
 }

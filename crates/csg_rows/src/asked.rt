@@ -25,7 +25,7 @@ fn size(number: Fix) -> u64
 }
 
 /// The ray from a point in a direction that rays have.
-fn ray_of(origin: [i32; 3], dir: [i32; 3]) -> Option<Ray>
+pub fn ray_of(origin: [i32; 3], dir: [i32; 3]) -> Option<Ray>
     ensures { IfSome result (λ ray. IsRayDirection ray.dir) }
 {
     let dir = vector(dir);

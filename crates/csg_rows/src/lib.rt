@@ -4,8 +4,16 @@
 #[cfg(test)]
 mod asked;
 #[cfg(test)]
+mod bounds;
+#[cfg(test)]
+mod flat;
+#[cfg(test)]
 mod known;
+#[cfg(test)]
+mod nested;
 #[cfg(test)]
 mod scenes;
 #[cfg(test)]
 mod singles;
+#[cfg(test)]
+mod trees;

@@ -1,3 +1,6 @@
-mod Rooms
-mod Inside
-mod Grouping
+pub mod Reciprocals
+pub mod Asking
+pub mod Walking
+pub mod Nearest
+pub mod Outlining
+pub mod Planting

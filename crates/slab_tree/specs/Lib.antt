@@ -1,2 +1,5 @@
 pub mod Boxes
-pub mod Groups
+pub mod Outlines
+pub mod Probes
+pub mod Searches
+pub mod Trees

@@ -1,10 +1,14 @@
-//! Boxes along the world's axes that hold the solids of leaves.
+//! What a ray hits first in a scene, by a tree of boxes: few of many objects are asked.
 #![tactic(auto)]
 
+mod arrange;
 mod bounds;
-mod ends;
-mod groups;
-mod reach;
+mod draft;
+mod node;
+mod outline;
+mod probe;
+mod search;
+mod walk;
+mod world;
 
-pub use bounds::{Box3, leaf_box};
-pub use groups::shape_box;
+pub use world::SlabWorld;

@@ -3,6 +3,8 @@ use Rattle.scene_model.specs.declared.shape.Leaf.{Leaf}
 use Rattle.shapes.specs.Faces.{faces_of, seen_from}
 use Rattle.shapes.specs.Rays.{Position}
 use Rattle.shapes.specs.Solids.{solid_faces, is_uncapped}
+use Rattle.leaf_boxes.specs.Boxes.{box_of}
+use Rattle.leaf_boxes.specs.Holding.{leaf_holds}
 use Rattle.csg_hits.proofs.Facing.{open_side}
 use Rattle.csg_hits.proofs.ready.ReadyLeaf.of.Goals as goal
 
@@ -17,4 +19,6 @@ invariant_of-result c =
       is_uncapped = uncapped;
       is_inverse = ap (λ (l : Leaf). l.inverse) (sym c.of.ensures);
       is_negated = ap (λ (l : Leaf). l.negated) (sym c.of.ensures);
+      is_bounds = c.leaf_box.ensures.value ∙ ap (λ (l : Leaf). box_of l) (sym c.of.ensures);
+      inside = λ p within has. c.leaf_box.ensures.inside p within (ap (λ (l : Leaf). leaf_holds l p) (sym c.of.ensures) ∙ has);
     }

@@ -1,0 +1,119 @@
+-- The boxes of leaves that are kept, and those of the objects made of them.
+use Rattle.std.proofs.Common.{ℕ, zero, suc, ◌-◌, ◌<◌, ◌≤◌, ◌≡◌, Bool, true, false, ◌&&◌, ◌⊎◌, inl, inr, Option, Some, None, List, [], ◌∷◌, length, get_or, map, slice_get, refl, ap, sym, subst, ◌∙◌, ⊎_elim}
+use Rattle.std.specs.Option.{option_map}
+use Rattle.std.proofs.lemmas.Bool.{and_parts, false≢true}
+use Rattle.std.proofs.lemmas.Option.{slice_get_past, slice_get_read, slice_get-map}
+use Rattle.scene_model.specs.declared.scene.Object.{Object}
+use Rattle.scene_model.specs.declared.shape.Leaf.{Leaf}
+use Rattle.shapes.specs.declared.ray.Ray.{Ray}
+use Rattle.shapes.specs.Rays.{Position, IsInWorld, point_at}
+use Rattle.leaf_boxes.specs.declared.bounds.Box3.{Box3}
+use Rattle.leaf_boxes.specs.Boxes.{IsInBox, box_of}
+use Rattle.leaf_boxes.specs.Groups.{AreHeld, box_numbered, shape_box_of}
+use Rattle.leaf_boxes.specs.Holding.{leaf_holds, shape_holds}
+use Rattle.csg_hits.specs.declared.ready.ReadyLeaf.{ReadyLeaf}
+use Rattle.csg_hits.specs.declared.ready.ReadyObject.{ReadyObject}
+use Rattle.csg_hits.specs.Bounds.{IsBounded, HoldsInside, bounds_of, box_of_object, holds_of, leaf_at}
+use Rattle.csg_hits.specs.Ready.{leaves_of, objects_of}
+use Rattle.csg_hits.specs.Sides.{differ}
+use Rattle.csg_hits.specs.Surfaces.{counts, crossing_of, is_gate, leaf_on, shape_on}
+use Rattle.csg_hits.proofs.Bounded.{AreBoxed, around}
+use Rattle.csg_hits.proofs.Numbered.{no_object, object_struck, plain}
+
+abbrev pub extents : List ReadyLeaf → List Box3
+extents leaves = map (λ leaf. leaf.bounds) leaves
+
+pub same_boxes : (xs : List ReadyLeaf) → extents xs ≡ map box_of (leaves_of xs)
+same_boxes [] = refl
+same_boxes (x ∷ xs) = ap (λ (b : Box3). b ∷ extents xs) x.is_bounds ∙ ap (λ (bs : List Box3). box_of x.leaf.value ∷ bs) (same_boxes xs)
+
+-- a leaf's box holds the points at which the leaf does
+pub held : (xs : List ReadyLeaf) (p : Position) → IsInWorld p → (n : ℕ) → leaf_at (leaves_of xs) p n ≡ true → IsInBox (box_numbered (extents xs) n) p
+held [] p within n h = absurd (false≢true h)
+held (x ∷ xs) p within zero h = x.inside p within h
+held (x ∷ xs) p within (suc n) h = held xs p within n h
+
+-- ---- from one point to the next
+
+either : (a b : Bool) → differ a b ≡ true → (a ≡ true) ⊎ (b ≡ true)
+either true b e = inl refl
+either false true e = inr refl
+either false false e = absurd (false≢true e)
+
+abbrev crossing : List ReadyLeaf → Position → Position → ℕ → Bool
+crossing xs p q n = (crossing_of (slice_get (leaves_of xs) n) p q).struck
+
+before_held : (xs : List ReadyLeaf) (p q : Position) → IsInWorld p → (n : ℕ) → (crossing_of (slice_get (leaves_of xs) n) p q).before ≡ true → IsInBox (box_numbered (extents xs) n) p
+before_held [] p q within n h = absurd (false≢true h)
+before_held (x ∷ xs) p q within zero h = x.inside p within h
+before_held (x ∷ xs) p q within (suc n) h = before_held xs p q within n h
+
+now_held : (xs : List ReadyLeaf) (p q : Position) → IsInWorld q → (n : ℕ) → (crossing_of (slice_get (leaves_of xs) n) p q).now ≡ true → IsInBox (box_numbered (extents xs) n) q
+now_held [] p q within n h = absurd (false≢true h)
+now_held (x ∷ xs) p q within zero h = x.inside q within h
+now_held (x ∷ xs) p q within (suc n) h = now_held xs p q within n h
+
+struck_held : (xs : List ReadyLeaf) (p q : Position) → IsInWorld p → IsInWorld q → (n : ℕ) → crossing xs p q n ≡ true → IsInBox (box_numbered (extents xs) n) p ⊎ IsInBox (box_numbered (extents xs) n) q
+struck_held [] p q here there n h = absurd (false≢true h)
+struck_held (x ∷ xs) p q here there zero h =
+    let leaf : Leaf = x.leaf.value in
+    let m = and_parts (differ (leaf_holds leaf p) (leaf_holds leaf q)) (is_gate leaf p q) h in
+    ⊎_elim (λ k. inl (x.inside p here k)) (λ k. inr (x.inside q there k)) (either (leaf_holds leaf p) (leaf_holds leaf q) m.0)
+struck_held (x ∷ xs) p q here there (suc n) h = struck_held xs p q here there n h
+
+pub boxed : (xs : List ReadyLeaf) (ray : Ray) (t : ℕ) → IsInWorld (point_at ray (t - 1)) → IsInWorld (point_at ray t) → AreBoxed (extents xs) (leaf_on (leaves_of xs) ray t) (point_at ray (t - 1)) (point_at ray t)
+boxed xs ray t here there = record {
+  first = here;
+  second = there;
+  before = before_held xs (point_at ray (t - 1)) (point_at ray t) here;
+  now = now_held xs (point_at ray (t - 1)) (point_at ray t) there;
+  struck = struck_held xs (point_at ray (t - 1)) (point_at ray t) here there;
+}
+
+-- ---- objects by their numbers
+
+object_at : (objects : List ReadyObject) (n : ℕ) (x : ReadyObject) → n < length objects → x ≡ get_or objects n x → slice_get (objects_of objects) n ≡ Some x.object.value
+object_at objects n x lt e =
+    let v : ReadyObject → Object = λ o. o.object.value in
+    slice_get-map v objects n ∙ ap (λ (o : Option ReadyObject). option_map v o) (slice_get_read objects (length objects) n x refl lt e)
+
+no_object_at : (objects : List ReadyObject) (n : ℕ) → length objects ≤ n → slice_get (objects_of objects) n ≡ None
+no_object_at objects n past =
+    let v : ReadyObject → Object = λ o. o.object.value in
+    slice_get-map v objects n ∙ ap (λ (o : Option ReadyObject). option_map v o) (slice_get_past objects n past)
+
+-- the box is the one that its definition says
+pub value_there : (leaves : List ReadyLeaf) (objects : List ReadyObject) (n : ℕ) (x : ReadyObject) (found : Box3) → n < length objects → x ≡ get_or objects n x → found ≡ shape_box_of (extents leaves) x.shape
+    → found ≡ bounds_of (plain (leaves_of leaves) objects) n
+value_there leaves objects n x found lt e h =
+    h ∙ ap (λ (bs : List Box3). shape_box_of bs x.shape) (same_boxes leaves) ∙ x.alike.boxed (map box_of (leaves_of leaves))
+    ∙ ap (λ (o : Option Object). box_of_object (leaves_of leaves) o) (sym (object_at objects n x lt e))
+
+pub value_nowhere : (leaves : List Leaf) (objects : List ReadyObject) (n : ℕ) (found : Box3) → length objects ≤ n → found ≡ box_of_object leaves None → found ≡ bounds_of (plain leaves objects) n
+value_nowhere leaves objects n found past h = h ∙ ap (λ (o : Option Object). box_of_object leaves o) (sym (no_object_at objects n past))
+
+-- it holds each point of the world at which the object does
+pub inside_there : (leaves : List ReadyLeaf) (objects : List ReadyObject) (n : ℕ) (x : ReadyObject) (found : Box3) → n < length objects → x ≡ get_or objects n x
+    → ((leaf : ℕ → Bool) (p : Position) → IsInWorld p → AreHeld leaf (extents leaves) p → shape_holds leaf x.shape ≡ true → IsInBox found p) → HoldsInside (plain (leaves_of leaves) objects) n found
+inside_there leaves objects n x found lt e h = λ p within has.
+    let leaf : ℕ → Bool = leaf_at (leaves_of leaves) p in
+    let P : Option Object → Type 0 = λ o. holds_of (leaves_of leaves) o p ≡ true in
+    let k : shape_holds leaf x.object.value.shape ≡ true = subst P (object_at objects n x lt e) has in
+    h leaf p within (held leaves p within) (x.alike.held leaf ∙ k)
+
+pub inside_nowhere : (leaves : List Leaf) (objects : List ReadyObject) (n : ℕ) (found : Box3) → length objects ≤ n → HoldsInside (plain leaves objects) n found
+inside_nowhere leaves objects n found past = λ p within has.
+    let P : Option Object → Type 0 = λ o. holds_of leaves o p ≡ true in absurd (false≢true (subst P (no_object_at objects n past) has))
+
+-- and one of the two points between which the object is struck
+pub struck_there : (leaves : List ReadyLeaf) (objects : List ReadyObject) (n : ℕ) (x : ReadyObject) (found : Box3) → n < length objects → x ≡ get_or objects n x → found ≡ shape_box_of (extents leaves) x.shape
+    → IsBounded (plain (leaves_of leaves) objects) n found
+struck_there leaves objects n x found lt e is = λ ray shadow t m positive here there h.
+    let all : Bool = (shape_on (leaves_of leaves) ray x.shape t).strikes m in
+    let k : (counts shadow x.object.value.no_shadow && all) ≡ true = sym (object_struck (leaves_of leaves) objects ray shadow n x lt e x.alike t m) ∙ h in
+    let P : Box3 → Type 0 = λ b. IsInBox b (point_at ray (t - 1)) ⊎ IsInBox b (point_at ray t) in
+    subst P (sym is)
+    ((around (extents leaves) (leaf_on (leaves_of leaves) ray t) (point_at ray (t - 1)) (point_at ray t) (boxed leaves ray t here there) x.shape).struck m (and_parts (counts shadow x.object.value.no_shadow) all k).1)
+
+pub struck_nowhere : (leaves : List Leaf) (objects : List ReadyObject) (n : ℕ) (found : Box3) → length objects ≤ n → IsBounded (plain leaves objects) n found
+struck_nowhere leaves objects n found past = λ ray shadow t m positive here there h. absurd (false≢true (sym (no_object leaves objects ray shadow n past t m) ∙ h))

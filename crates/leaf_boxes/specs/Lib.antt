@@ -1,0 +1,4 @@
+pub mod Holding
+pub mod Boxes
+pub mod Groups
+pub mod BoxLaws
