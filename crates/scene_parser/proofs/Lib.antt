@@ -1,3 +1,6 @@
-mod Skips
-mod Moves
-mod Modifies
+pub mod Each
+pub mod Places
+pub mod Objects
+pub mod Valids
+pub mod Kept
+pub mod Items

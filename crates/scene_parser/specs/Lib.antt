@@ -1,5 +1,7 @@
 pub mod Globals
-pub mod Skipped
 pub mod Defaults
-pub mod Held
-pub mod Modifiers
+pub mod Seen
+pub mod Placed
+pub mod Scenes
+pub mod Sound
+pub mod OneScene

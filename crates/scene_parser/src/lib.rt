@@ -1,18 +1,20 @@
-//! Parts of scenes, from a flat list of tokens: global settings, the background, the default texture,
-//! what is passed over, what an object holds while it is read, and its modifiers.
+//! Scenes, from a flat list of tokens: items one after another, the objects placed in the world over the
+//! default texture in force.
 #![tactic(auto)]
 
 mod default;
+mod draft;
 mod global;
-mod modifier;
-mod skip;
-mod tables;
+mod item;
+mod law;
+mod list;
+mod placed;
+mod scene;
 
 pub use default::{DefaultTexture, plain_default};
 pub use global::{Globals, background, plain_globals};
-pub use modifier::{ModifierPart, Modifiers, modifier_part, take_modifier};
-pub use skip::{behind_truth, skipped};
-pub use tables::{GivenTexture, LeafDraft, Marks, SheetPart, Tables};
+pub use law::one_scene;
+pub use scene::parse;
 
 #[cfg(test)]
 mod tests;

@@ -2,14 +2,17 @@
 // from the rules.
 ghost use Rattle.scene_expr.specs.Values.{AreWhole};
 
-use crate::{background, behind_truth, plain_default, plain_globals, skipped};
+use crate::{background, parse, plain_default, plain_globals};
 use fix_math::Fix;
 use item_blocks::{ParseFault, braced};
 use scene_expr::Settings;
 use scene_lexer::{Token, lex};
+use scene_model::{Leaf, Light, Object, Op, Pattern, Scene, Shape, Sheet, Texture};
 use std::alloc::{AllocError, Global};
 use std::process::Abort;
 use std::test::Fail;
+
+mod scenes;
 
 fn fault_shown(alloc: Global, fault: &ParseFault) -> Result<String, AllocError> {
     match fault {
@@ -17,9 +20,10 @@ fn fault_shown(alloc: Global, fault: &ParseFault) -> Result<String, AllocError> 
             let at = place.at;
             format!(in alloc; "expected {kind:?} @{at}")
         }
-        ParseFault::OutOfProfile { place, word: _ } => {
+        ParseFault::OutOfProfile { place, word } => {
             let at = place.at;
-            format!(in alloc; "out of profile @{at}")
+            let word = str::from_utf8(word.bytes()).unwrap_or("?");
+            format!(in alloc; "out of profile {word} @{at}")
         }
         ParseFault::ValueRange { place } => {
             let at = place.at;
@@ -98,12 +102,184 @@ fn default_outcome(alloc: Global, tokens: &[Token]) -> Result<String, AllocError
     }
 }
 
-fn skipped_outcome(alloc: Global, tokens: &[Token]) -> Result<String, AllocError> {
-    match skipped(tokens, 64, 0) {
-        Ok(next) => {
-            let truth = behind_truth(tokens, next);
-            format!(in alloc; "{next} {truth}")
+fn op_shown(op: Op) -> &'static str {
+    match op {
+        Op::Union => "union",
+        Op::Merge => "merge",
+        Op::Intersection => "common",
+        Op::Difference => "first",
+    }
+}
+
+/// A leaf by its number, a group as (op parts), and ! before an inverse one.
+fn add_shape(alloc: Global, shape: &Shape, text: &mut String) -> Result<(), AllocError> {
+    match shape {
+        Shape::Leaf(number) => {
+            let number = format!(in alloc; " {number}")?;
+            text.push_str(number.as_str())?;
         }
+        Shape::Group { op, parts, inverse } => {
+            text.push_str(if *inverse { " !(" } else { " (" })?;
+            text.push_str(op_shown(*op))?;
+            for part in parts {
+                add_shape(alloc, part, text)?;
+            }
+            text.push_str(")")?;
+        }
+    }
+    Ok(())
+}
+
+fn objects_shown(alloc: Global, objects: &[Object]) -> Result<String, AllocError> {
+    let mut text = String::from_str(alloc, "")?;
+    for object in objects {
+        add_shape(alloc, &object.shape, &mut text)?;
+        text.push_str(if object.no_shadow {
+            " shadowless;"
+        } else {
+            ";"
+        })?;
+    }
+    Ok(text)
+}
+
+/// Each leaf as object:texture:ior, with i and n where it is inverse and negated.
+fn leaves_shown(alloc: Global, leaves: &[Leaf]) -> Result<String, AllocError> {
+    let mut text = String::from_str(alloc, "")?;
+    for leaf in leaves {
+        let object = leaf.object;
+        let texture = leaf.texture;
+        let ior = leaf.ior.raw();
+        let shown = format!(in alloc; " {object}:{texture}:{ior}")?;
+        text.push_str(shown.as_str())?;
+        text.push_str(if leaf.inverse { "i" } else { "" })?;
+        text.push_str(if leaf.negated { "n" } else { "" })?;
+    }
+    Ok(text)
+}
+
+/// Each triangle as texture:ior, with s and m where it has no shadow and is smooth.
+fn sheets_shown(alloc: Global, sheets: &[Sheet]) -> Result<String, AllocError> {
+    let mut text = String::from_str(alloc, "")?;
+    for sheet in sheets {
+        let texture = sheet.texture;
+        let ior = sheet.ior.raw();
+        let shown = format!(in alloc; " {texture}:{ior}")?;
+        text.push_str(shown.as_str())?;
+        text.push_str(if sheet.no_shadow { "s" } else { "" })?;
+        text.push_str(if sheet.smooth { "m" } else { "" })?;
+    }
+    Ok(text)
+}
+
+/// A pattern by its letter and the red of its first colour; a gradient by the count of its map's entries.
+fn pattern_shown(alloc: Global, pattern: &Pattern) -> Result<String, AllocError> {
+    match pattern {
+        Pattern::Plain(colour) => {
+            let red = colour[0].raw();
+            format!(in alloc; "p{red}")
+        }
+        Pattern::Checker(colours) => {
+            let red = colours[0][0].raw();
+            format!(in alloc; "c{red}")
+        }
+        Pattern::Brick {
+            mortar,
+            brick: _,
+            size: _,
+            width: _,
+        } => {
+            let red = mortar[0].raw();
+            format!(in alloc; "b{red}")
+        }
+        Pattern::Hexagon(colours) => {
+            let red = colours[0][0].raw();
+            format!(in alloc; "h{red}")
+        }
+        Pattern::Gradient { axis: _, map } => {
+            let count = map.len();
+            format!(in alloc; "g{count}")
+        }
+    }
+}
+
+/// Each texture by its pattern, where that stands along x, and what it throws back.
+fn textures_shown(alloc: Global, textures: &[Texture]) -> Result<String, AllocError> {
+    let mut text = String::from_str(alloc, "")?;
+    for texture in textures {
+        let pattern = pattern_shown(alloc, &texture.pigment.pattern)?;
+        let pattern = pattern.as_str();
+        let x = texture.pigment.xform.anchor.x.raw();
+        let diffuse = texture.finish.diffuse.raw();
+        let shown = format!(in alloc; " {pattern}@{x}d{diffuse}")?;
+        text.push_str(shown.as_str())?;
+    }
+    Ok(text)
+}
+
+/// Each lamp as x/red, with s, c and f where it is shadowless, has a cone and fades.
+fn lights_shown(alloc: Global, lights: &[Light]) -> Result<String, AllocError> {
+    let mut text = String::from_str(alloc, "")?;
+    for light in lights {
+        let x = light.at.x.raw();
+        let red = light.colour[0].raw();
+        let shown = format!(in alloc; " {x}/{red}")?;
+        text.push_str(shown.as_str())?;
+        text.push_str(if light.shadowless { "s" } else { "" })?;
+        text.push_str(if light.spot.is_some() { "c" } else { "" })?;
+        text.push_str(if light.fade.is_some() { "f" } else { "" })?;
+    }
+    Ok(text)
+}
+
+fn view_shown(alloc: Global, scene: &Scene) -> Result<String, AllocError> {
+    let x = scene.camera.location.x.raw();
+    let z = scene.camera.direction.z.raw();
+    let right = scene.camera.right.x.raw();
+    let kind = if scene.camera.orthographic {
+        "orthographic"
+    } else {
+        "perspective"
+    };
+    format!(in alloc; "{x} {z} {right} {kind}")
+}
+
+fn settings_shown(alloc: Global, scene: &Scene) -> Result<String, AllocError> {
+    let red = scene.background[0].raw();
+    let blue = scene.background[2].raw();
+    let ambient = scene.ambient_light[2].raw();
+    let levels = scene.levels;
+    let adc = scene.adc.raw();
+    format!(in alloc; "{red} {blue} {ambient} {levels} {adc}")
+}
+
+/// What is shown of a scene.
+#[derive(Clone, Copy)]
+enum Side {
+    Settings,
+    View,
+    Lights,
+    Objects,
+    Leaves,
+    Sheets,
+    Textures,
+}
+
+fn side_shown(alloc: Global, scene: &Scene, side: Side) -> Result<String, AllocError> {
+    match side {
+        Side::Settings => settings_shown(alloc, scene),
+        Side::View => view_shown(alloc, scene),
+        Side::Lights => lights_shown(alloc, scene.lights.as_slice()),
+        Side::Objects => objects_shown(alloc, scene.objects.as_slice()),
+        Side::Leaves => leaves_shown(alloc, scene.leaves.as_slice()),
+        Side::Sheets => sheets_shown(alloc, scene.sheets.as_slice()),
+        Side::Textures => textures_shown(alloc, scene.textures.as_slice()),
+    }
+}
+
+fn scene_outcome(alloc: Global, tokens: &[Token], side: Side) -> Result<String, AllocError> {
+    match parse(alloc, tokens, &settings()) {
+        Ok(scene) => side_shown(alloc, &scene, side),
         Err(fault) => fault_shown(alloc, &fault),
     }
 }
@@ -114,7 +290,7 @@ enum Part {
     Globals,
     Background,
     Default,
-    Skipped,
+    Scene(Side),
 }
 
 fn outcome(alloc: Global, text: &[u8], part: Part) -> Result<String, AllocError> {
@@ -128,7 +304,7 @@ fn outcome(alloc: Global, text: &[u8], part: Part) -> Result<String, AllocError>
         Part::Globals => globals_outcome(alloc, tokens.as_slice()),
         Part::Background => background_outcome(alloc, tokens.as_slice()),
         Part::Default => default_outcome(alloc, tokens.as_slice()),
-        Part::Skipped => skipped_outcome(alloc, tokens.as_slice()),
+        Part::Scene(side) => scene_outcome(alloc, tokens.as_slice(), side),
     }
 }
 
@@ -165,11 +341,11 @@ static GLOBALS: [(&[u8], &str); 17] = [
     (b"{ adc_bailout 1 }", "5 65536 65536 next 4"),
     (b"{ adc_bailout 2 }", "range @14"),
     (b"{ adc_bailout x }", "expected Parameter @14"),
-    (b"{ radiosity { } }", "out of profile @2"),
+    (b"{ radiosity { } }", "out of profile radiosity @2"),
     (b"{ assumed_gamma 1, }", "expected CloseBrace @17"),
-    (b"{ assumed_gamma foo", "out of profile @16"),
+    (b"{ assumed_gamma foo", "out of profile foo @16"),
     (b"{ assumed_gamma 1", "expected CloseBrace @17"),
-    (b"assumed_gamma", "out of profile @0"),
+    (b"assumed_gamma", "out of profile assumed_gamma @0"),
 ];
 
 static BACKGROUNDS: [(&[u8], &str); 6] = [
@@ -177,7 +353,7 @@ static BACKGROUNDS: [(&[u8], &str); 6] = [
     (b"{ 0.5 }", "32768 32768 next 3"),
     (b"{ }", "expected Parameter @2"),
     (b"{ rgb 257 }", "range @2"),
-    (b"{ rgb 1 rgb 1 }", "out of profile @8"),
+    (b"{ rgb 1 rgb 1 }", "out of profile rgb @8"),
     (b"{ rgb 1", "expected CloseBrace @7"),
 ];
 
@@ -191,18 +367,9 @@ static DEFAULTS: [(&[u8], &str); 6] = [
         b"{ texture { pigment { } } texture { finish { } } }",
         "true 6554 39322 next 14",
     ),
-    (b"{ interior { } }", "out of profile @2"),
-    (b"{ scale 2 }", "out of profile @2"),
+    (b"{ interior { } }", "out of profile interior @2"),
+    (b"{ scale 2 }", "out of profile scale @2"),
     (b"{ texture { finish { ambient 17 } } 5 }", "range @29"),
-];
-
-static SKIPPED: [(&[u8], &str); 6] = [
-    (b"{ }", "2 2"),
-    (b"{ { 5 sphere { } } ] } yes no", "9 10"),
-    (b"{ } noo", "2 2"),
-    (b"{ { }", "expected CloseBrace @5"),
-    (b"box", "out of profile @0"),
-    (b"}", "expected OpenBrace @0"),
 ];
 
 #[test]
@@ -224,22 +391,53 @@ fn defaults_hold_textures_alone(rt: HostRuntime) -> Result<(), Fail> {
 }
 
 #[test]
-fn braces_are_passed_over(rt: HostRuntime) -> Result<(), Fail> {
-    agree(&rt, rt.alloc(), Part::Skipped, &SKIPPED)?;
+fn scenes_have_settings_views_and_lamps(rt: HostRuntime) -> Result<(), Fail> {
+    let alloc = rt.alloc();
+    agree(&rt, alloc, Part::Scene(Side::Settings), &scenes::SETTINGS)?;
+    agree(&rt, alloc, Part::Scene(Side::View), &scenes::VIEWS)?;
+    agree(&rt, alloc, Part::Scene(Side::Lights), &scenes::LIGHTS)?;
     Ok(())
 }
 
 #[test]
-fn braces_have_a_limit(rt: HostRuntime) -> Result<(), Fail> {
+fn objects_stand_in_the_scene(rt: HostRuntime) -> Result<(), Fail> {
+    let alloc = rt.alloc();
+    agree(&rt, alloc, Part::Scene(Side::Objects), &scenes::OBJECTS)?;
+    agree(&rt, alloc, Part::Scene(Side::Leaves), &scenes::LEAVES)?;
+    agree(&rt, alloc, Part::Scene(Side::Sheets), &scenes::SHEETS)?;
+    Ok(())
+}
+
+#[test]
+fn textures_go_over_the_default_in_force(rt: HostRuntime) -> Result<(), Fail> {
+    agree(
+        &rt,
+        rt.alloc(),
+        Part::Scene(Side::Textures),
+        &scenes::TEXTURES,
+    )?;
+    Ok(())
+}
+
+#[test]
+fn the_first_fault_is_told(rt: HostRuntime) -> Result<(), Fail> {
+    let alloc = rt.alloc();
+    agree(&rt, alloc, Part::Scene(Side::Settings), &scenes::FAULTS)?;
+    agree(&rt, alloc, Part::Scene(Side::Settings), &scenes::LATE)?;
+    Ok(())
+}
+
+#[test]
+fn lamps_have_a_limit(rt: HostRuntime) -> Result<(), Fail> {
     let alloc = rt.alloc();
     let mut text = String::from_str(alloc, "")?;
-    for _ in 0..64 {
-        text.push_str("{ ")?;
+    for _ in 0..256 {
+        text.push_str("light_source { 0, 1 } ")?;
     }
-    let deep = outcome(alloc, text.as_str().as_bytes(), Part::Skipped)?;
-    assert_eq!(rt; deep.as_str(), "expected CloseBrace @127");
-    text.push_str("{ ")?;
-    let deeper = outcome(alloc, text.as_str().as_bytes(), Part::Skipped)?;
-    assert_eq!(rt; deeper.as_str(), "limit 8 @128");
+    let most = outcome(alloc, text.as_str().as_bytes(), Part::Scene(Side::Settings))?;
+    assert_eq!(rt; most.as_str(), "0 0 65536 5 257");
+    text.push_str("light_source { 0, 1 }")?;
+    let more = outcome(alloc, text.as_str().as_bytes(), Part::Scene(Side::Settings))?;
+    assert_eq!(rt; more.as_str(), "limit 7 @5632");
     Ok(())
 }

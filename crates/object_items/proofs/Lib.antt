@@ -1,0 +1,5 @@
+mod Skips
+mod Moves
+mod Modifies
+mod Shapes
+mod Wholes

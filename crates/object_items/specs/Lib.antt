@@ -1,0 +1,15 @@
+pub mod Skipped
+pub mod Held
+pub mod Modifiers
+pub mod Trees
+pub mod Statements
+pub mod Sheets
+pub mod Objects
+pub mod Sound
+pub mod SoundSolids
+pub mod SoundTrees
+pub mod SoundPlaces
+pub mod SoundObjects
+pub mod SoundItems
+pub mod SoundGroups
+pub mod OneObject

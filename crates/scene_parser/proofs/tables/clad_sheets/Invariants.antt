@@ -1,7 +1,0 @@
--- What is changed from here on comes to the whole.
-use Rattle.std.proofs.Common.{◌≡◌}
-use Rattle.scene_parser.specs.Held.{from_on, clad_sheet}
-use Rattle.scene_parser.proofs.tables.clad_sheets.Given as goal
-
-abbrev pub invariant-sheets : goal.invariant-sheets
-invariant-sheets l = from_on l.from (clad_sheet l.number) l.initial.sheets ≡ from_on l.i (clad_sheet l.number) l.sheets

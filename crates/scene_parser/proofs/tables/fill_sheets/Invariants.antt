@@ -1,7 +1,0 @@
--- What is changed from here on comes to the whole.
-use Rattle.std.proofs.Common.{◌≡◌}
-use Rattle.scene_parser.specs.Held.{from_on, fill_sheet}
-use Rattle.scene_parser.proofs.tables.fill_sheets.Given as goal
-
-abbrev pub invariant-sheets : goal.invariant-sheets
-invariant-sheets l = from_on l.from (fill_sheet l.interior) l.initial.sheets ≡ from_on l.i (fill_sheet l.interior) l.sheets
