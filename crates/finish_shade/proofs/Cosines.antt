@@ -1,9 +1,9 @@
 -- The size of the cosine between two directions, and of what is joined of them.
-use Rattle.std.proofs.Common.{◌≡◌, ℤ, pos, neg_ℤ, ◌+ℤ◌, ◌*ℤ◌, ◌≤◌, ◌<◌, ◌^◌, ◌*◌, unsigned_abs, arith}
+use Rattle.std.proofs.Common.{ℤ, pos, neg_ℤ, ◌+ℤ◌, ◌*ℤ◌, ◌≤◌, ◌<◌, ◌^◌, ◌*◌, unsigned_abs, arith}
 use Rattle.std.proofs.lemmas.Int.{ints}
 use Rattle.fix_math.specs.declared.fix.V3.{V3}
 use Rattle.fix_math.specs.Floor.{rnd_within}
-use Rattle.fix_math.specs.Matrices.{along, row_of, component, IsVectorWithin}
+use Rattle.fix_math.specs.Matrices.{along, row_of, IsVectorWithin}
 use Rattle.fix_math.specs.MatrixLaws.{row_dot_within}
 use Rattle.fix_math.specs.Numbers.{rnd}
 use Rattle.fix_math.specs.Order.{mul-within}

@@ -2,3 +2,11 @@ pub mod Casts
 pub mod Shares
 pub mod Cosines
 pub mod Smooth
+pub mod Reach
+pub mod Crossed
+pub mod Between
+pub mod Lighting
+pub mod AlikeHits
+pub mod AlikeShades
+pub mod Shown
+pub mod Strikes

@@ -1,5 +1,5 @@
 -- The sizes of products of amounts.
-use Rattle.std.proofs.Common.{◌≡◌, ℕ, ℤ, pos, ◌*ℤ◌, ◌≤ℤ◌, ◌*◌, ◌≤◌, ◌^◌, unsigned_abs, ap, arith}
+use Rattle.std.proofs.Common.{◌≡◌, ℕ, ℤ, pos, ◌*ℤ◌, ◌≤ℤ◌, ◌*◌, ◌≤◌, unsigned_abs, ap, arith}
 use Rattle.std.proofs.lemmas.Int.{ints}
 use Rattle.fix_math.specs.Floor.{rnd_within, rnd_not_negative}
 use Rattle.fix_math.specs.Numbers.{rnd, product_of}

@@ -1,10 +1,10 @@
 -- Numbers from 0 to 1, colours, and the weights of rays.
-use Rattle.std.specs.Prelude.{ℕ, ℤ, pos, ◌+ℤ◌, ◌*ℤ◌, Bool, ◌||◌, List, int_lt, Result, Ok, Err}
+use Rattle.std.specs.Prelude.{ℕ, ℤ, pos, ◌+ℤ◌, Bool, ◌||◌, List, int_lt, Result, Ok, Err}
 use Rattle.std.specs.Int.{int_min, int_max}
 use Rattle.std.specs.Ordering.{int_eq}
 use Rattle.fix_math.specs.declared.fix.NumFault.{NumFault}
 use Rattle.fix_math.specs.Matrices.{component, row_of}
-use Rattle.fix_math.specs.Numbers.{rnd, product_of}
+use Rattle.fix_math.specs.Numbers.{product_of}
 use Rattle.fix_math.specs.Powers.{power_of}
 
 -- a number, or 0 or 1 where it is below or above

@@ -1,5 +1,5 @@
 -- The directions of rays that leave a surface: thrown back, and bent on their way through. (Reference manual, reflection and interior)
-use Rattle.std.specs.Prelude.{ℕ, ℤ, pos, neg_ℤ, ◌+ℤ◌, ◌-ℤ◌, ◌*ℤ◌, Bool, int_lt, if◌then◌else◌, unsigned_abs}
+use Rattle.std.specs.Prelude.{ℤ, pos, neg_ℤ, ◌+ℤ◌, ◌-ℤ◌, ◌*ℤ◌, Bool, int_lt, if◌then◌else◌, unsigned_abs}
 use Rattle.std.specs.Int.{int_min}
 use Rattle.std.specs.Ordering.{int_eq}
 use Rattle.fix_math.specs.declared.fix.V3.{V3}

@@ -1,5 +1,5 @@
 -- What a surface shows of the light that falls on it. (Reference manual, finish)
-use Rattle.std.specs.Prelude.{ℕ, ℤ, pos, ◌+ℤ◌, ◌-ℤ◌, ◌^◌, List, [], ◌∷◌, Bool, int_lt, if◌then◌else◌}
+use Rattle.std.specs.Prelude.{ℕ, ℤ, pos, ◌+ℤ◌, ◌-ℤ◌, ◌^◌, List, int_lt, if◌then◌else◌}
 use Rattle.std.specs.Int.{int_min, int_max}
 use Rattle.fix_math.specs.declared.fix.V3.{V3}
 use Rattle.fix_math.specs.Directions.{unit_of}
@@ -7,7 +7,7 @@ use Rattle.fix_math.specs.Matrices.{component, along, vector, row_of}
 use Rattle.fix_math.specs.Numbers.{product_of}
 use Rattle.fix_math.specs.Vectors.{rounded_dot_of}
 use Rattle.scene_model.specs.declared.texture.Finish.{Finish}
-use Rattle.finish_shade.specs.Amounts.{unit_power, black}
+use Rattle.finish_shade.specs.Amounts.{unit_power}
 use Rattle.finish_shade.specs.Directions.{thrown_back}
 
 -- products of three and four go from left to right

@@ -1,4 +1,9 @@
 pub mod Amounts
 pub mod Lamps
+pub mod LampLaws
 pub mod Directions
 pub mod Finishes
+pub mod Meetings
+pub mod Arrivals
+pub mod Shades
+pub mod Alike

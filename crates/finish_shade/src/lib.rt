@@ -2,13 +2,20 @@
 #![tactic(auto)]
 
 mod amounts;
+mod arriving;
 mod directions;
 mod finish;
 mod lamps;
+mod law;
+mod lit;
+mod met;
 mod products;
+mod shading;
 mod weights;
 
 pub use lamps::{cone, fading};
+pub use law::one_shade;
+pub use shading::shade;
 
 #[cfg(test)]
 mod tests;

@@ -1,5 +1,5 @@
-use Rattle.std.proofs.Common.{◌≡◌, ◌^◌, ◌*◌, FitsSigned, arith, to_z-of_z, unsigned_abs}
-use Rattle.std.specs.Int.{w64, w128}
+use Rattle.std.proofs.Common.{FitsSigned, arith}
+use Rattle.std.specs.Int.{w128}
 use Rattle.fix_math.specs.Vectors.{rounded_dot_of}
 use Rattle.finish_shade.proofs.Cosines.{cosine_small}
 use Rattle.finish_shade.proofs.Casts.{narrow_fits, narrowed}

@@ -1,5 +1,5 @@
-use Rattle.std.proofs.Common.{◌≡◌, ◌^◌, ◌*◌, FitsSigned, arith, to_z-of_z, unsigned_abs}
-use Rattle.std.specs.Int.{w64, w128}
+use Rattle.std.proofs.Common.{FitsSigned, arith}
+use Rattle.std.specs.Int.{w128}
 use Rattle.std.specs.Prelude.{neg_ℤ, pos}
 use Rattle.fix_math.specs.Numbers.{rnd}
 use Rattle.fix_math.specs.Vectors.{dot_of}

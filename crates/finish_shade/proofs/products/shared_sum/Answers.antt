@@ -1,7 +1,6 @@
 use Rattle.std.proofs.Common.{◌≡◌, ◌^◌, ◌∙◌, FitsSigned, arith, to_z-of_z}
 use Rattle.std.specs.Int.{w64, w128}
 use Rattle.fix_math.specs.Numbers.{product_of}
-use Rattle.scene_model.specs.Amounts.{IsAmount}
 use Rattle.finish_shade.proofs.Casts.{narrow_fits, narrowed}
 use Rattle.finish_shade.proofs.Shares.{product_amount, product-turned}
 use Rattle.finish_shade.proofs.products.shared_sum.Goals as goal

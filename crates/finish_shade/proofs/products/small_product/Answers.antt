@@ -1,4 +1,4 @@
-use Rattle.std.proofs.Common.{◌≡◌, ◌^◌, ◌*◌, FitsSigned, arith, to_z-of_z, unsigned_abs}
+use Rattle.std.proofs.Common.{◌^◌, FitsSigned, arith, to_z-of_z}
 use Rattle.std.specs.Int.{w64, w128}
 use Rattle.fix_math.specs.Numbers.{product_of}
 use Rattle.finish_shade.proofs.Shares.{product_within}
