@@ -1,1 +1,5 @@
+pub mod Drawn
+pub mod Kept
+pub mod Neighbours
 pub mod Shares
+pub mod Sums

@@ -215,7 +215,7 @@ fn near_quotient(side: Fix, place: i64, parts: u64) -> i64
 }
 
 #[inline]
-fn quotient(dividend: i64, divisor: i64) -> i64
+pub(crate) fn quotient(dividend: i64, divisor: i64) -> i64
     requires dividend_small { unsigned_abs dividend ≤ 2 ^ 61 }
     requires divisor_some { pos 1 ≤ℤ divisor }
     requires divisor_small { unsigned_abs divisor ≤ 2 ^ 26 }

@@ -1,4 +1,4 @@
-use Rattle.std.proofs.Common.{ℤ, pos, ◌+ℤ◌, ◌*ℤ◌, FitsSigned, ap, ◌∙◌, to_z-of_z}
+use Rattle.std.proofs.Common.{FitsSigned, to_z-of_z}
 use Rattle.std.specs.Int.{w64}
 use Rattle.frame_trace.proofs.Shares.{finer_small}
 use Rattle.frame_trace.proofs.pixel_rays.finer.Goals as goal

@@ -1,4 +1,4 @@
-use Rattle.std.proofs.Common.{◌^◌, FitsSigned, arith, to_z-of_z}
+use Rattle.std.proofs.Common.{FitsSigned, arith, to_z-of_z}
 use Rattle.std.specs.Int.{w64}
 use Rattle.frame_trace.proofs.Shares.{share_small}
 use Rattle.frame_trace.proofs.pixel_rays.near_share.Goals as goal
