@@ -1,5 +1,5 @@
 -- Includes, and what is made of parts in a whole expansion.
-use Rattle.std.proofs.Common.{ℕ, ◌≡◌, subst, sym, ap, ◌∙◌, refl, Bool, true, false, List, Option, Some, None, Result, Ok, Err}
+use Rattle.std.proofs.Common.{ℕ, ◌≡◌, ◌≢◌, subst, sym, ap, ◌∙◌, refl, Bool, true, false, List, Option, Some, None, Result, Ok, Err}
 use Rattle.scene_lexer.specs.declared.token.Place.{Place}
 use Rattle.scene_expr.specs.declared.value.Settings.{Settings}
 use Rattle.scene_expr.specs.Heads.{place_at}
@@ -9,12 +9,15 @@ use Rattle.directive_machine.specs.declared.flat.Source.{Source}
 use Rattle.directive_machine.specs.declared.stop.Stop.{Stop}
 use Rattle.directive_machine.specs.declared.part.Part.{Part}
 use Rattle.directive_machine.specs.declared.part.Then.{Then}
-use Rattle.directive_machine.specs.declared.part.Next.{Next}
+use Rattle.directive_machine.specs.declared.part.Rest.{Rest}
+use Rattle.directive_machine.specs.declared.texts.Text.{Text as Held}
+use Rattle.directive_machine.specs.Moves.{Next, next_of}
+use Rattle.std.specs.Result.{IfOk, IfErr}
 use Rattle.directive_machine.specs.State.{State, Stopped, Settled, stopped, settled}
 use Rattle.directive_machine.specs.Settles.{given_up, is_argument, is_told}
 use Rattle.directive_machine.specs.Parts.{IsTold}
 use Rattle.directive_machine.specs.Sources.{Sources, unread, opened, found_text, text_at, IsOpened}
-use Rattle.directive_machine.specs.Course.{Given, Course, Halted, Came, course, halted, came, after, Within, Beside}
+use Rattle.directive_machine.specs.Course.{Given, given, Course, Halted, Came, course, halted, came, after, Within, Beside}
 use Rattle.directive_machine.specs.Includes.{asking, included_next, IsAsked, IsIncludedBy, IsIncluded}
 use Rattle.directive_machine.specs.Ways.{read_at, home_number, home_by, IsToldIn, IsSettledBy, IsSettled}
 
@@ -100,6 +103,16 @@ settled_told g part w next s none is = subst (λ k. IsSettledBy k g part w (Ok (
 
 pub settled_fault : (g : Given) (part : Part) (w : Course) (f : Stop) (s : State) → read_at part.then ≡ None → IsToldIn g.settings part w (Err (stopped f s)) → IsSettledBy (read_at part.then) g part w (Err (halted f (course s w.sources)))
 settled_fault g part w f s none is = subst (λ k. IsSettledBy k g part w (Err (halted f (course s w.sources)))) (sym none) (IsThen.fault _ (Within.fault _ is))
+
+-- the same of an answer as it stands
+
+pub settled_ok_by : (part : Part) (w : Course) (set : Settings) (libraries : List (List ℕ)) (s : State) (told : Option (List Held)) (further : Part) (r : Result Rest Stop) → read_at part.then ≡ None → IfOk r (λ next. IsToldIn set part w (Ok (settled (next_of next further) s))) → IfOk r (λ next. (h : List Held) → told ≡ Some h → IsSettledBy (read_at part.then) (given set libraries h) part w (Ok (came (next_of next further) (course s w.sources))))
+settled_ok_by part w set libraries s told further (Ok next) none is = λ h held. settled_told (given set libraries h) part w (next_of next further) s none is
+settled_ok_by part w set libraries s told further (Err f) none is = is
+
+pub settled_err_by : (part : Part) (w : Course) (set : Settings) (libraries : List (List ℕ)) (s : State) (told : Option (List Held)) (r : Result Rest Stop) → read_at part.then ≡ None → IfErr r (λ f. f ≢ Stop.NoMemory → IsToldIn set part w (Err (stopped f s))) → IfErr r (λ f. f ≢ Stop.NoMemory → f ≢ Stop.TextFault → (h : List Held) → told ≡ Some h → IsSettledBy (read_at part.then) (given set libraries h) part w (Err (halted f (course s w.sources))))
+settled_err_by part w set libraries s told (Ok next) none is = is
+settled_err_by part w set libraries s told (Err f) none is = λ some text h held. settled_fault (given set libraries h) part w f s none (is some)
 
 pub settled_read : (g : Given) (part : Part) (w : Course) (at : ℕ) (r : Result Came Halted) → read_at part.then ≡ Some at → IsIncluded g at part w r → IsSettledBy (read_at part.then) g part w r
 settled_read g part w at r some is = subst (λ k. IsSettledBy k g part w r) (sym some) is

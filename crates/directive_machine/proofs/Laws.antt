@@ -6,7 +6,7 @@ use Rattle.scene_expr.specs.declared.value.Value.{Value}
 use Rattle.scene_expr.specs.Then.{IsThen}
 use Rattle.directive_machine.specs.declared.part.Part.{Part}
 use Rattle.directive_machine.specs.declared.part.Then.{Then}
-use Rattle.directive_machine.specs.declared.part.Next.{Next}
+use Rattle.directive_machine.specs.Moves.{Next}
 use Rattle.directive_machine.specs.State.{State, settled, on_ok}
 use Rattle.directive_machine.specs.Values.{Valued, IsValued}
 use Rattle.fix_math.specs.Outcomes.{in_range}

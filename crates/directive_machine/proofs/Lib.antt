@@ -14,3 +14,9 @@ mod OneText
 mod One
 mod OneScene
 mod Settled
+mod Fronts
+mod Heads
+mod Tails
+mod SaidFirst
+mod Onward
+mod Starts

@@ -10,7 +10,7 @@ use Rattle.directive_machine.specs.declared.stop.Stop.{Stop}
 use Rattle.directive_machine.specs.declared.part.Call.{Call}
 use Rattle.directive_machine.specs.declared.part.Part.{Part}
 use Rattle.directive_machine.specs.declared.part.Then.{Then}
-use Rattle.directive_machine.specs.declared.part.Next.{Next}
+use Rattle.directive_machine.specs.Moves.{Next}
 use Rattle.directive_machine.specs.State.{State, settled, refused, on_ok, restored}
 use Rattle.directive_machine.specs.Declares.{bound_as}
 use Rattle.directive_machine.specs.Words.{argument}

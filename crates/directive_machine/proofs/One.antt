@@ -2,8 +2,8 @@
 use Rattle.std.proofs.Common.{ℕ, ◌≡◌, ◌<◌, ◌≤◌, ◌∙◌, subst, sym, refl, true, false, MatchBool, Result, Ok, Err, arith}
 use Rattle.scene_expr.specs.Then.{IsThen, IsOne}
 use Rattle.directive_machine.specs.declared.part.Part.{Part}
-use Rattle.directive_machine.specs.declared.part.Action.{Action}
-use Rattle.directive_machine.specs.declared.part.Next.{Next}
+use Rattle.directive_machine.specs.Moves.{Action}
+use Rattle.directive_machine.specs.Moves.{Next}
 use Rattle.directive_machine.specs.State.{Stopped, Begun}
 use Rattle.directive_machine.specs.Course.{Given, Course, After, Came, Halted, Outcome, course, halted_by, after}
 use Rattle.directive_machine.specs.Ways.{begun_at, IsSettled}

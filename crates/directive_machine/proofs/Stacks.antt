@@ -6,8 +6,8 @@ use Rattle.scene_expr.specs.Then.{IsThen}
 use Rattle.directive_machine.specs.Weights.{weight}
 use Rattle.directive_machine.specs.declared.part.Part.{Part}
 use Rattle.directive_machine.specs.declared.part.Frame.{Frame}
-use Rattle.directive_machine.specs.declared.part.Action.{Action}
-use Rattle.directive_machine.specs.declared.part.Next.{Next}
+use Rattle.directive_machine.specs.Moves.{Action}
+use Rattle.directive_machine.specs.Moves.{Next}
 use Rattle.directive_machine.specs.State.{State, Stopped, begun}
 use Rattle.directive_machine.specs.Course.{Given, Course, Halted, Outcome, After, course, halted_by, after, came}
 use Rattle.directive_machine.specs.Ways.{begun_at, IsSettled}

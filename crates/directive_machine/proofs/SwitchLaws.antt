@@ -5,7 +5,7 @@ use Rattle.scene_expr.specs.declared.value.Value.{Value}
 use Rattle.scene_expr.specs.Then.{IsThen}
 use Rattle.text_structure.specs.Texts.{Text}
 use Rattle.directive_machine.specs.declared.part.Choice.{Choice}
-use Rattle.directive_machine.specs.declared.part.Next.{Next}
+use Rattle.directive_machine.specs.Moves.{Next}
 use Rattle.directive_machine.specs.declared.part.Part.{Part}
 use Rattle.directive_machine.specs.declared.part.Then.{Then}
 use Rattle.directive_machine.specs.State.{settled, on_ok}

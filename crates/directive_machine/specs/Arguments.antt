@@ -8,7 +8,7 @@ use Rattle.scope_tables.specs.Names.{bound, left, scope_at, innermost}
 use Rattle.directive_machine.specs.declared.part.Call.{Call}
 use Rattle.directive_machine.specs.declared.part.Part.{Part}
 use Rattle.directive_machine.specs.declared.part.Then.{Then}
-use Rattle.directive_machine.specs.declared.part.Next.{Next}
+use Rattle.directive_machine.specs.Moves.{Next}
 use Rattle.directive_machine.specs.State.{State, Stopped, Settled, settled, on_ok}
 use Rattle.directive_machine.specs.Words.{Argued, argument}
 

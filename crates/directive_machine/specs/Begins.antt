@@ -10,7 +10,7 @@ use Rattle.directive_machine.specs.declared.part.Turns.{Turns}
 use Rattle.directive_machine.specs.declared.part.Span.{Span}
 use Rattle.directive_machine.specs.declared.part.Part.{Part}
 use Rattle.directive_machine.specs.declared.part.Then.{Then}
-use Rattle.directive_machine.specs.declared.part.Action.{Action}
+use Rattle.directive_machine.specs.Moves.{Action}
 use Rattle.directive_machine.specs.State.{State, Stopped, Begun, begun, on_ok, counted, deeper, passed, asked, named, is_aside}
 
 abbrev pub span : ℕ → ℕ → Span

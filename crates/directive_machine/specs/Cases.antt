@@ -7,7 +7,7 @@ use Rattle.text_structure.specs.Turns.{sign_at, directive_at}
 use Rattle.directive_machine.specs.declared.part.Choice.{Choice}
 use Rattle.directive_machine.specs.declared.part.Part.{Part}
 use Rattle.directive_machine.specs.declared.part.Then.{Then}
-use Rattle.directive_machine.specs.declared.part.Next.{Next}
+use Rattle.directive_machine.specs.Moves.{Next}
 use Rattle.directive_machine.specs.State.{State, Stopped, Settled, settled, on_ok, counted, passed, wrong}
 use Rattle.directive_machine.specs.Begins.{span, listed, is_closed, piece, is_piece_closed}
 use Rattle.directive_machine.specs.Nexts.{done, goes_on, run_next}

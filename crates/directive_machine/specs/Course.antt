@@ -3,7 +3,7 @@ use Rattle.std.specs.Prelude.{ℕ, Bool, List, Result, Ok, Err}
 use Rattle.scene_expr.specs.declared.value.Settings.{Settings}
 use Rattle.directive_machine.specs.declared.stop.Stop.{Stop}
 use Rattle.directive_machine.specs.declared.texts.Text.{Text as Held}
-use Rattle.directive_machine.specs.declared.part.Next.{Next}
+use Rattle.directive_machine.specs.Moves.{Next}
 use Rattle.directive_machine.specs.State.{State, Stopped}
 use Rattle.directive_machine.specs.Sources.{Sources, Unread}
 

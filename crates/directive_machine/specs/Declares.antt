@@ -10,7 +10,7 @@ use Rattle.scope_tables.specs.declared.binding.Binding.{Binding}
 use Rattle.scope_tables.specs.Names.{Scope, found, declared, bound, removed}
 use Rattle.directive_machine.specs.declared.part.Part.{Part}
 use Rattle.directive_machine.specs.declared.part.Then.{Then}
-use Rattle.directive_machine.specs.declared.part.Action.{Action}
+use Rattle.directive_machine.specs.Moves.{Action}
 use Rattle.directive_machine.specs.State.{State, Stopped, Begun, begun, on_ok, counted, deeper, passed, asked, named, wrong}
 use Rattle.directive_machine.specs.Begins.{span, opened, finish_of}
 

@@ -1,8 +1,8 @@
 -- What a part of a text comes to, from one of its tokens on.
 use Rattle.std.specs.Prelude.{ℕ, ◌≡◌, ◌<◌, ◌≤◌, Bool, true, false, Ok, Err}
 use Rattle.directive_machine.specs.declared.part.Part.{Part}
-use Rattle.directive_machine.specs.declared.part.Action.{Action}
-use Rattle.directive_machine.specs.declared.part.Next.{Next}
+use Rattle.directive_machine.specs.Moves.{Action}
+use Rattle.directive_machine.specs.Moves.{Next}
 use Rattle.directive_machine.specs.State.{State, Stopped, begun}
 use Rattle.directive_machine.specs.Course.{Given, Course, Halted, Outcome, After, course, halted_by, after, came}
 use Rattle.directive_machine.specs.Ways.{begun_at, IsSettled}

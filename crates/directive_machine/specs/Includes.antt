@@ -10,7 +10,7 @@ use Rattle.directive_machine.specs.declared.flat.Source.{Source}
 use Rattle.directive_machine.specs.declared.stop.Stop.{Stop}
 use Rattle.directive_machine.specs.declared.part.Part.{Part}
 use Rattle.directive_machine.specs.declared.part.Then.{Then}
-use Rattle.directive_machine.specs.declared.part.Next.{Next}
+use Rattle.directive_machine.specs.Moves.{Next}
 use Rattle.directive_machine.specs.State.{State, Stopped}
 use Rattle.directive_machine.specs.Values.{Valued, IsValued}
 use Rattle.directive_machine.specs.Holds.{text_of}

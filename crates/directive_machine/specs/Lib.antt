@@ -1,4 +1,5 @@
 pub mod Texts
+pub mod Moves
 pub mod State
 pub mod Carried
 pub mod Begins
@@ -21,6 +22,7 @@ pub mod Includes
 pub mod Ways
 pub mod Expands
 pub mod Expansions
+pub mod Fronts
 pub mod Loops
 pub mod Meanings
 pub mod Substitutes

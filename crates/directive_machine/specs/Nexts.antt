@@ -8,7 +8,7 @@ use Rattle.directive_machine.specs.declared.part.Span.{Span}
 use Rattle.directive_machine.specs.declared.part.Circle.{Circle}
 use Rattle.directive_machine.specs.declared.part.Part.{Part}
 use Rattle.directive_machine.specs.declared.part.Then.{Then}
-use Rattle.directive_machine.specs.declared.part.Next.{Next}
+use Rattle.directive_machine.specs.Moves.{Next}
 use Rattle.directive_machine.specs.State.{State, Stopped, Settled, settled, refused}
 use Rattle.directive_machine.specs.Begins.{chosen}
 use Rattle.directive_machine.specs.Values.{Valued}

@@ -7,7 +7,7 @@ use Rattle.scope_tables.specs.declared.binding.Binding.{Binding}
 use Rattle.scope_tables.specs.Names.{left}
 use Rattle.directive_machine.specs.declared.part.Part.{Part}
 use Rattle.directive_machine.specs.declared.part.Then.{Then}
-use Rattle.directive_machine.specs.declared.part.Next.{Next}
+use Rattle.directive_machine.specs.Moves.{Next}
 use Rattle.directive_machine.specs.State.{State, Stopped, Settled, settled, on_ok, passed, restored}
 use Rattle.directive_machine.specs.Declares.{bound_as}
 use Rattle.directive_machine.specs.Values.{Valued, closed}

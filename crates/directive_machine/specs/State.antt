@@ -10,8 +10,8 @@ use Rattle.scope_tables.specs.Names.{Scope}
 use Rattle.directive_machine.specs.declared.stop.Stop.{Stop}
 use Rattle.directive_machine.specs.declared.part.Part.{Part}
 use Rattle.directive_machine.specs.declared.part.Then.{Then}
-use Rattle.directive_machine.specs.declared.part.Action.{Action}
-use Rattle.directive_machine.specs.declared.part.Next.{Next}
+use Rattle.directive_machine.specs.Moves.{Action}
+use Rattle.directive_machine.specs.Moves.{Next}
 
 -- the scopes, those of calls whose arguments are read, the count of tokens taken, the tokens handed out, the messages
 pub record State : Type 0 where
@@ -123,6 +123,14 @@ is_aside part = part.outer || is_evaluated part.then
 abbrev pub handed : Part → List Token → Place → State → Result State Stopped
 handed part tokens place s =
     if is_aside part || nat_lt (length s.out + length tokens) (most_handed + 1) then Ok (record s { out = s.out ++ tokens }) else limited 2 place s
+
+-- whether a part may hand out one more token
+abbrev pub is_free : Part → State → Bool
+is_free part s = is_aside part || nat_lt (length s.out + 1) (most_handed + 1)
+
+-- with tokens behind those that were handed out
+abbrev pub given_out : List Token → State → State
+given_out tokens s = record s { out = s.out ++ tokens }
 
 -- without the tokens that a list handed out aside
 abbrev pub restored : ℕ → State → State

@@ -6,9 +6,9 @@ use Rattle.text_structure.specs.declared.closer.Closer.{Closer}
 use Rattle.text_structure.specs.declared.mark.Directive.{Directive}
 use Rattle.text_structure.specs.Texts.{Text, end_of}
 use Rattle.text_structure.specs.Turns.{directive_at}
-use Rattle.directive_machine.specs.declared.part.Action.{Action}
+use Rattle.directive_machine.specs.Moves.{Action}
 use Rattle.directive_machine.specs.declared.part.Choice.{Choice}
-use Rattle.directive_machine.specs.declared.part.Next.{Next}
+use Rattle.directive_machine.specs.Moves.{Next}
 use Rattle.directive_machine.specs.declared.part.Part.{Part}
 use Rattle.directive_machine.specs.declared.part.Span.{Span}
 use Rattle.directive_machine.specs.declared.part.Then.{Then}

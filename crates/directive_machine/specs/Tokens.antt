@@ -7,7 +7,7 @@ use Rattle.text_structure.specs.Texts.{Text}
 use Rattle.text_structure.specs.Turns.{directive_at}
 use Rattle.scope_tables.specs.Names.{found}
 use Rattle.directive_machine.specs.declared.part.Part.{Part}
-use Rattle.directive_machine.specs.declared.part.Action.{Action}
+use Rattle.directive_machine.specs.Moves.{Action}
 use Rattle.directive_machine.specs.State.{State, Stopped, Begun, begun, on_ok, counted, wrong}
 use Rattle.directive_machine.specs.Begins.{begun_if, begun_ifdef, begun_while, begun_for, begun_switch}
 use Rattle.directive_machine.specs.Declares.{begun_declare, begun_undef, begun_message, begun_include, begun_version, begun_macro}

@@ -5,7 +5,7 @@ use Rattle.std.specs.Prelude.{◌≡◌}
 use Rattle.directive_machine.specs.Rounds.{goes_round}
 use Rattle.directive_machine.specs.declared.part.Part.{Part}
 use Rattle.directive_machine.specs.declared.part.Then.{Then}
-use Rattle.directive_machine.specs.declared.part.Next.{Next}
+use Rattle.directive_machine.specs.Moves.{Next}
 
 abbrev pub distance : ℤ → ℤ → ℕ
 distance number last = unsigned_abs (last -ℤ number)
@@ -39,10 +39,6 @@ keeps_measure (Next.Further part) old new left = (16777216 - new) * most_weight 
 abbrev pub is_turn : Next → ℤ → ℤ → ℤ → Type 0
 is_turn (Next.Done broken) number last step = 0 ≤ 0
 is_turn (Next.Further part) number last step = (weight part.then ≡ distance number last + 2) × (goes_round number last step ≡ true)
-
-abbrev pub is_done : Next → Type 0
-is_done (Next.Done broken) = 0 ≤ 0
-is_done (Next.Further part) = weight part.then < 0
 
 abbrev pub is_lighter : Next → ℕ → Type 0
 is_lighter (Next.Done broken) most = 0 ≤ 0

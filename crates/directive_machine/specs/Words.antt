@@ -13,7 +13,7 @@ use Rattle.scope_tables.specs.Names.{Scope, found, entered}
 use Rattle.directive_machine.specs.declared.part.Call.{Call}
 use Rattle.directive_machine.specs.declared.part.Part.{Part}
 use Rattle.directive_machine.specs.declared.part.Then.{Then}
-use Rattle.directive_machine.specs.declared.part.Action.{Action}
+use Rattle.directive_machine.specs.Moves.{Action}
 use Rattle.directive_machine.specs.State.{State, Stopped, Begun, begun, on_ok, counted, deeper, passed, wrong, handed, is_aside}
 use Rattle.directive_machine.specs.Begins.{listed, is_closed, piece, is_piece_closed}
 use Rattle.directive_machine.specs.Declares.{step}

@@ -1,5 +1,6 @@
 // The arguments of a call, and the call itself.
 ghost use Rattle.std.specs.Prelude.{◌≡◌, ◌≢◌, ◌<◌, ◌≤◌, ◌+◌, ◌^◌, Some, None, Ok, Err, IfOk, IfErr, OnOk};
+ghost use Rattle.directive_machine.specs.Moves.{next_of};
 ghost use Rattle.directive_machine.specs.State.{stopped, settled, on_ok};
 ghost use Rattle.directive_machine.specs.Arguments.{parameter_in, parameter_by, with_argument, called_state, called_part, made_call, next_call, further_argument, made_argument};
 ghost use Rattle.directive_machine.specs.Settles.{settled_by};
@@ -10,7 +11,7 @@ ghost use Rattle.directive_machine.specs.declared.stop.Stop.TheVariants.{NoMemor
 
 use crate::machine::Machine;
 use crate::made::close;
-use crate::part::{Call, Next, Part, Then};
+use crate::part::{Call, Part, Rest, Then};
 use crate::stop::Stop;
 use crate::words::argument;
 use scope_tables::{Binding, Macro};
@@ -44,6 +45,7 @@ fn parameter(home: &Written, called: Macro, index: usize) -> Option<usize>
 fn pass(machine: &mut Machine, name: Option<usize>, binding: Binding) -> Result<(), Stop>
     ensures ok { OnOk result (state_of machine.new ≡ with_argument name binding (state_of machine.old)) }
     ensures fault { IfErr result (λ f. f ≡ NoMemory) }
+    ensures said { machine.new.messages.items ≡ machine.old.messages.items }
 {
     match name {
         Some(name) => {
@@ -60,6 +62,7 @@ fn pass(machine: &mut Machine, name: Option<usize>, binding: Binding) -> Result<
 fn enter(machine: &mut Machine) -> Result<(), Stop>
     ensures ok { OnOk result (state_of machine.new ≡ called_state (state_of machine.old)) }
     ensures fault { IfErr result (λ f. f ≡ NoMemory) }
+    ensures said { machine.new.messages.items ≡ machine.old.messages.items }
 {
     if machine.scopes.take_over(&mut machine.waiting).is_err() {
         return Err(Stop::NoMemory);
@@ -67,36 +70,42 @@ fn enter(machine: &mut Machine) -> Result<(), Stop>
     Ok(())
 }
 
-fn called_part(part: &Part, called: Macro) -> Part
-    ensures { result ≡ called_part part.now called }
+/// Writes the body of a macro down, which is left with its scope.
+fn follow(part: &Part, called: Macro, further: &mut Part)
+    ensures { further.new ≡ called_part part.now called }
 {
-    Part {
-        text: called.text,
-        depth: part.depth,
-        at: called.body,
-        end: called.end,
-        closed: false,
-        from: 0,
-        outer: part.outer,
-        then: Then::Leave,
-    }
+    further.text = called.text;
+    further.at = called.body;
+    further.end = called.end;
+    further.from = 0;
+    further.depth = part.depth;
+    further.closed = false;
+    further.outer = part.outer;
+    further.then = Then::Leave;
 }
 
 /// The body of a macro follows, in its scope.
-fn make_call(machine: &mut Machine, part: &Part, called: Macro) -> Result<Next, Stop>
+fn make_call(
+    machine: &mut Machine,
+    part: &Part,
+    called: Macro,
+    further: &mut Part,
+) -> Result<Rest, Stop>
     requires taken { machine.old.taken ≤ 16777216 }
-    ensures ok { IfOk result (λ next. made_call part.now called (state_of machine.old) ≡ Ok (settled next (state_of machine.new))) }
+    ensures ok { IfOk result (λ next. made_call part.now called (state_of machine.old) ≡ Ok (settled (next_of next further.new) (state_of machine.new))) }
     ensures fault { IfErr result (λ f. f ≢ NoMemory → made_call part.now called (state_of machine.old) ≡ Err (stopped f (state_of machine.new))) }
-    ensures light { IfOk result is_light }
+    ensures light { IfOk result (λ next. is_light (next_of next further.new)) }
     ensures more { OnOk result (machine.old.taken ≤ machine.new.taken) }
     ensures within { OnOk result (machine.new.taken ≤ 16777216) }
+    ensures said { machine.new.messages.items ≡ machine.old.messages.items }
 {
     enter(machine)?;
-    Ok(Next::Further(called_part(part, called)))
+    follow(part, called, further);
+    Ok(Rest::Further)
 }
 
-fn next_call(call: Call) -> Call
-    ensures { result ≡ next_call call }
+fn next_call(call: &Call) -> Call
+    ensures { result ≡ next_call call.now }
 {
     Call {
         called: call.called,
@@ -115,19 +124,21 @@ fn make_next(
     source: &Written,
     machine: &mut Machine,
     part: &Part,
-    call: Call,
+    call: &Call,
     at: usize,
-) -> Result<Next, Stop>
+    further: &mut Part,
+) -> Result<Rest, Stop>
     requires place { at < 2 ^ 33 }
     requires taken { machine.old.taken ≤ 16777216 }
-    ensures ok { IfOk result (λ next. on_ok (argument source.now part.now call at (state_of machine.old)) further_argument ≡ Ok (settled next (state_of machine.new))) }
-    ensures fault { IfErr result (λ f. f ≢ NoMemory → on_ok (argument source.now part.now call at (state_of machine.old)) further_argument ≡ Err (stopped f (state_of machine.new))) }
-    ensures light { IfOk result is_light }
+    ensures ok { IfOk result (λ next. on_ok (argument source.now part.now call.now at (state_of machine.old)) further_argument ≡ Ok (settled (next_of next further.new) (state_of machine.new))) }
+    ensures fault { IfErr result (λ f. f ≢ NoMemory → on_ok (argument source.now part.now call.now at (state_of machine.old)) further_argument ≡ Err (stopped f (state_of machine.new))) }
+    ensures light { IfOk result (λ next. is_light (next_of next further.new)) }
     ensures more { OnOk result (machine.old.taken ≤ machine.new.taken) }
     ensures within { OnOk result (machine.new.taken ≤ 16777216) }
+    ensures said { machine.new.messages.items ≡ machine.old.messages.items }
 {
-    let next = argument(source, machine, part, call, at)?;
-    Ok(Next::Further(next))
+    argument(source, machine, part, call, at, further)?;
+    Ok(Rest::Further)
 }
 
 /// An argument is bound; the next one follows, or the body.
@@ -136,21 +147,30 @@ pub fn make_argument(
     home: &Written,
     machine: &mut Machine,
     part: &Part,
-    call: Call,
+    call: &Call,
     binding: Binding,
-) -> Result<Next, Stop>
+    further: &mut Part,
+) -> Result<Rest, Stop>
     requires taken { machine.old.taken ≤ 16777216 }
-    ensures ok { IfOk result (λ next. made_argument source.now (Some home.now) part.now call binding (state_of machine.old) ≡ Ok (settled next (state_of machine.new))) }
-    ensures fault { IfErr result (λ f. f ≢ NoMemory → made_argument source.now (Some home.now) part.now call binding (state_of machine.old) ≡ Err (stopped f (state_of machine.new))) }
-    ensures light { IfOk result is_light }
+    ensures ok { IfOk result (λ next. made_argument source.now (Some home.now) part.now call.now binding (state_of machine.old) ≡ Ok (settled (next_of next further.new) (state_of machine.new))) }
+    ensures fault { IfErr result (λ f. f ≢ NoMemory → made_argument source.now (Some home.now) part.now call.now binding (state_of machine.old) ≡ Err (stopped f (state_of machine.new))) }
+    ensures light { IfOk result (λ next. is_light (next_of next further.new)) }
     ensures more { OnOk result (machine.old.taken ≤ machine.new.taken) }
     ensures within { OnOk result (machine.new.taken ≤ 16777216) }
+    ensures said { machine.new.messages.items ≡ machine.old.messages.items }
 {
     pass(machine, parameter(home, call.called, call.index), binding)?;
     if part.end < call.close.min(source.len()) {
-        make_next(source, machine, part, next_call(call), part.end + 1)
+        make_next(
+            source,
+            machine,
+            part,
+            &next_call(call),
+            part.end + 1,
+            further,
+        )
     } else {
-        make_call(machine, part, call.called)
+        make_call(machine, part, call.called, further)
     }
 }
 
@@ -161,19 +181,29 @@ pub fn give(
     home: &Written,
     machine: &mut Machine,
     part: &Part,
-    call: Call,
-) -> Result<Next, Stop>
+    call: &Call,
+    further: &mut Part,
+) -> Result<Rest, Stop>
     requires taken { machine.old.taken ≤ 16777216 }
-    ensures ok { IfOk result (λ next. settled_by source.now (Some home.now) part.now (Then.Give call) (state_of machine.old) ≡ Ok (settled next (state_of machine.new))) }
-    ensures fault { IfErr result (λ f. f ≢ NoMemory → settled_by source.now (Some home.now) part.now (Then.Give call) (state_of machine.old) ≡ Err (stopped f (state_of machine.new))) }
-    ensures light { IfOk result is_light }
+    ensures ok { IfOk result (λ next. settled_by source.now (Some home.now) part.now (Then.Give call.now) (state_of machine.old) ≡ Ok (settled (next_of next further.new) (state_of machine.new))) }
+    ensures fault { IfErr result (λ f. f ≢ NoMemory → settled_by source.now (Some home.now) part.now (Then.Give call.now) (state_of machine.old) ≡ Err (stopped f (state_of machine.new))) }
+    ensures light { IfOk result (λ next. is_light (next_of next further.new)) }
     ensures more { OnOk result (machine.old.taken ≤ machine.new.taken) }
     ensures within { OnOk result (machine.new.taken ≤ 16777216) }
     ensures strict { OnOk result (machine.old.taken < machine.new.taken) }
+    ensures said { machine.new.messages.items ≡ machine.old.messages.items }
 {
     close(source, machine, part)?;
     let block = machine.take_aside(alloc, part.from)?;
-    make_argument(source, home, machine, part, call, Binding::Block(block))
+    make_argument(
+        source,
+        home,
+        machine,
+        part,
+        call,
+        Binding::Block(block),
+        further,
+    )
 }
 
 /// An argument that refers to a name.
@@ -182,19 +212,29 @@ pub fn refer(
     home: &Written,
     machine: &mut Machine,
     part: &Part,
-    call: Call,
+    call: &Call,
     name: usize,
-) -> Result<Next, Stop>
+    further: &mut Part,
+) -> Result<Rest, Stop>
     requires taken { machine.old.taken ≤ 16777216 }
-    ensures ok { IfOk result (λ next. settled_by source.now (Some home.now) part.now (Then.Refer call name) (state_of machine.old) ≡ Ok (settled next (state_of machine.new))) }
-    ensures fault { IfErr result (λ f. f ≢ NoMemory → settled_by source.now (Some home.now) part.now (Then.Refer call name) (state_of machine.old) ≡ Err (stopped f (state_of machine.new))) }
-    ensures light { IfOk result is_light }
+    ensures ok { IfOk result (λ next. settled_by source.now (Some home.now) part.now (Then.Refer call.now name) (state_of machine.old) ≡ Ok (settled (next_of next further.new) (state_of machine.new))) }
+    ensures fault { IfErr result (λ f. f ≢ NoMemory → settled_by source.now (Some home.now) part.now (Then.Refer call.now name) (state_of machine.old) ≡ Err (stopped f (state_of machine.new))) }
+    ensures light { IfOk result (λ next. is_light (next_of next further.new)) }
     ensures more { OnOk result (machine.old.taken ≤ machine.new.taken) }
     ensures within { OnOk result (machine.new.taken ≤ 16777216) }
     ensures strict { OnOk result (machine.old.taken < machine.new.taken) }
+    ensures said { machine.new.messages.items ≡ machine.old.messages.items }
 {
     close(source, machine, part)?;
-    make_argument(source, home, machine, part, call, Binding::Reference(name))
+    make_argument(
+        source,
+        home,
+        machine,
+        part,
+        call,
+        Binding::Reference(name),
+        further,
+    )
 }
 
 /// A call without arguments.
@@ -202,16 +242,18 @@ pub fn call_at_once(
     source: &Written,
     machine: &mut Machine,
     part: &Part,
-    call: Call,
-) -> Result<Next, Stop>
+    call: &Call,
+    further: &mut Part,
+) -> Result<Rest, Stop>
     requires taken { machine.old.taken ≤ 16777216 }
-    ensures ok { IfOk result (λ next. settled_by source.now None part.now (Then.Enter call) (state_of machine.old) ≡ Ok (settled next (state_of machine.new))) }
-    ensures fault { IfErr result (λ f. f ≢ NoMemory → settled_by source.now None part.now (Then.Enter call) (state_of machine.old) ≡ Err (stopped f (state_of machine.new))) }
-    ensures light { IfOk result is_light }
+    ensures ok { IfOk result (λ next. settled_by source.now None part.now (Then.Enter call.now) (state_of machine.old) ≡ Ok (settled (next_of next further.new) (state_of machine.new))) }
+    ensures fault { IfErr result (λ f. f ≢ NoMemory → settled_by source.now None part.now (Then.Enter call.now) (state_of machine.old) ≡ Err (stopped f (state_of machine.new))) }
+    ensures light { IfOk result (λ next. is_light (next_of next further.new)) }
     ensures more { OnOk result (machine.old.taken ≤ machine.new.taken) }
     ensures within { OnOk result (machine.new.taken ≤ 16777216) }
     ensures strict { OnOk result (machine.old.taken < machine.new.taken) }
+    ensures said { machine.new.messages.items ≡ machine.old.messages.items }
 {
     close(source, machine, part)?;
-    make_call(machine, part, call.called)
+    make_call(machine, part, call.called, further)
 }

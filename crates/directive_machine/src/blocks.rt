@@ -1,12 +1,13 @@
 // The heads of `#if` and its kin, of loops and of `#switch`.
 ghost use Rattle.std.specs.Prelude.{◌≡◌, ◌≢◌, ◌<◌, ◌≤◌, ◌^◌, Ok, Err, IfOk, IfErr, OnOk};
+ghost use Rattle.directive_machine.specs.Moves.{action_of};
 ghost use Rattle.directive_machine.specs.State.{stopped, begun};
 ghost use Rattle.directive_machine.specs.Begins.{opened, opened_body, listed, is_closed, otherwise, begun_if, begun_ifdef, is_bound, is_held, chosen, circle, begun_while, piece, is_piece_closed, turns, begun_for, begun_switch};
 ghost use Rattle.directive_machine.specs.Carried.{state_of};
 ghost use Rattle.directive_machine.specs.declared.stop.Stop.TheVariants.{NoMemory};
 
 use crate::machine::{Machine, is_aside};
-use crate::part::{Action, Circle, Part, Span, Then, Turns};
+use crate::part::{Circle, Lead, Part, Span, Then, Turns};
 use crate::stop::Stop;
 use text_structure::{Closer, Directive, Written, directive_at};
 
@@ -19,22 +20,19 @@ pub fn opened(
     from: usize,
     then: Then,
     behind: usize,
-) -> Action
-    ensures { result ≡ opened outer.now depth list closed from then behind }
+    inner: &mut Part,
+) -> Lead
+    ensures { action_of result inner.new ≡ opened outer.now depth list closed from then behind }
 {
-    Action::Open {
-        part: Part {
-            text: outer.text,
-            depth,
-            at: list.at,
-            end: list.end,
-            closed,
-            from,
-            outer: is_aside(outer),
-            then,
-        },
-        behind,
-    }
+    inner.text = outer.text;
+    inner.at = list.at;
+    inner.end = list.end;
+    inner.from = from;
+    inner.depth = depth;
+    inner.closed = closed;
+    inner.outer = is_aside(outer);
+    inner.then = then;
+    Lead::Open(behind)
 }
 
 /// A list behind a `(`, up to its `)` or the end of what it stands in.
@@ -70,10 +68,10 @@ pub fn otherwise(source: &Written, at: usize) -> Span
 }
 
 /// A body that is run next.
-pub fn body(outer: &Part, depth: u32, list: Span, behind: usize) -> Action
-    ensures { result ≡ opened_body outer.now depth list behind }
+pub fn body(outer: &Part, depth: u32, list: Span, behind: usize, inner: &mut Part) -> Lead
+    ensures { action_of result inner.new ≡ opened_body outer.now depth list behind }
 {
-    opened(outer, depth, list, false, 0, Then::Plain, behind)
+    opened(outer, depth, list, false, 0, Then::Plain, behind, inner)
 }
 
 /// An `#if`: its `(`, and then its condition.
@@ -82,13 +80,15 @@ pub fn begin_if(
     machine: &mut Machine,
     part: &Part,
     at: usize,
-) -> Result<Action, Stop>
+    inner: &mut Part,
+) -> Result<Lead, Stop>
     requires place { at < 2 ^ 24 }
     requires taken { machine.old.taken ≤ 16777216 }
-    ensures ok { IfOk result (λ action. begun_if source.now part.now at (state_of machine.old) ≡ Ok (begun action (state_of machine.new))) }
+    ensures ok { IfOk result (λ action. begun_if source.now part.now at (state_of machine.old) ≡ Ok (begun (action_of action inner.new) (state_of machine.new))) }
     ensures fault { IfErr result (λ f. begun_if source.now part.now at (state_of machine.old) ≡ Err (stopped f (state_of machine.new))) }
     ensures more { OnOk result (machine.old.taken ≤ machine.new.taken) }
     ensures within { OnOk result (machine.new.taken ≤ 16777216) }
+    ensures said { machine.new.messages.items ≡ machine.old.messages.items }
 {
     let inside = machine.deeper(source, at, part.depth)?;
     machine.count(source, at + 1)?;
@@ -110,6 +110,7 @@ pub fn begin_if(
         machine.given(),
         then,
         source.end(Closer::End, at + 2) + 2,
+        inner,
     ))
 }
 
@@ -146,13 +147,15 @@ pub fn begin_ifdef(
     part: &Part,
     wanted: bool,
     at: usize,
-) -> Result<Action, Stop>
+    inner: &mut Part,
+) -> Result<Lead, Stop>
     requires place { at < 2 ^ 24 }
     requires taken { machine.old.taken ≤ 16777216 }
-    ensures ok { IfOk result (λ action. begun_ifdef source.now part.now wanted at (state_of machine.old) ≡ Ok (begun action (state_of machine.new))) }
+    ensures ok { IfOk result (λ action. begun_ifdef source.now part.now wanted at (state_of machine.old) ≡ Ok (begun (action_of action inner.new) (state_of machine.new))) }
     ensures fault { IfErr result (λ f. begun_ifdef source.now part.now wanted at (state_of machine.old) ≡ Err (stopped f (state_of machine.new))) }
     ensures more { OnOk result (machine.old.taken ≤ machine.new.taken) }
     ensures within { OnOk result (machine.new.taken ≤ 16777216) }
+    ensures said { machine.new.messages.items ≡ machine.old.messages.items }
 {
     let inside = machine.deeper(source, at, part.depth)?;
     machine.count(source, at + 1)?;
@@ -166,7 +169,13 @@ pub fn begin_ifdef(
         end: limit,
     };
     let list = chosen(held, first, otherwise(source, limit));
-    Ok(body(part, inside, list, source.end(Closer::End, at + 2) + 2))
+    Ok(body(
+        part,
+        inside,
+        list,
+        source.end(Closer::End, at + 2) + 2,
+        inner,
+    ))
 }
 
 /// A `#while` as it stands in its text.
@@ -193,13 +202,15 @@ pub fn begin_while(
     machine: &mut Machine,
     part: &Part,
     at: usize,
-) -> Result<Action, Stop>
+    inner: &mut Part,
+) -> Result<Lead, Stop>
     requires place { at < 2 ^ 24 }
     requires taken { machine.old.taken ≤ 16777216 }
-    ensures ok { IfOk result (λ action. begun_while source.now part.now at (state_of machine.old) ≡ Ok (begun action (state_of machine.new))) }
+    ensures ok { IfOk result (λ action. begun_while source.now part.now at (state_of machine.old) ≡ Ok (begun (action_of action inner.new) (state_of machine.new))) }
     ensures fault { IfErr result (λ f. begun_while source.now part.now at (state_of machine.old) ≡ Err (stopped f (state_of machine.new))) }
     ensures more { OnOk result (machine.old.taken ≤ machine.new.taken) }
     ensures within { OnOk result (machine.new.taken ≤ 16777216) }
+    ensures said { machine.new.messages.items ≡ machine.old.messages.items }
 {
     let inside = machine.deeper(source, at, part.depth)?;
     machine.count(source, at + 1)?;
@@ -213,6 +224,7 @@ pub fn begin_while(
         machine.given(),
         Then::Test(circle),
         source.end(Closer::End, at + 2) + 2,
+        inner,
     ))
 }
 
@@ -258,13 +270,15 @@ pub fn begin_for(
     machine: &mut Machine,
     part: &Part,
     at: usize,
-) -> Result<Action, Stop>
+    inner: &mut Part,
+) -> Result<Lead, Stop>
     requires place { at < 2 ^ 24 }
     requires taken { machine.old.taken ≤ 16777216 }
-    ensures ok { IfOk result (λ action. begun_for source.now part.now at (state_of machine.old) ≡ Ok (begun action (state_of machine.new))) }
+    ensures ok { IfOk result (λ action. begun_for source.now part.now at (state_of machine.old) ≡ Ok (begun (action_of action inner.new) (state_of machine.new))) }
     ensures fault { IfErr result (λ f. begun_for source.now part.now at (state_of machine.old) ≡ Err (stopped f (state_of machine.new))) }
     ensures more { OnOk result (machine.old.taken ≤ machine.new.taken) }
     ensures within { OnOk result (machine.new.taken ≤ 16777216) }
+    ensures said { machine.new.messages.items ≡ machine.old.messages.items }
 {
     let inside = machine.deeper(source, at, part.depth)?;
     machine.count(source, at + 1)?;
@@ -281,6 +295,7 @@ pub fn begin_for(
         machine.given(),
         Then::From(turns),
         end + 2,
+        inner,
     ))
 }
 
@@ -290,13 +305,15 @@ pub fn begin_switch(
     machine: &mut Machine,
     part: &Part,
     at: usize,
-) -> Result<Action, Stop>
+    inner: &mut Part,
+) -> Result<Lead, Stop>
     requires place { at < 2 ^ 24 }
     requires taken { machine.old.taken ≤ 16777216 }
-    ensures ok { IfOk result (λ action. begun_switch source.now part.now at (state_of machine.old) ≡ Ok (begun action (state_of machine.new))) }
+    ensures ok { IfOk result (λ action. begun_switch source.now part.now at (state_of machine.old) ≡ Ok (begun (action_of action inner.new) (state_of machine.new))) }
     ensures fault { IfErr result (λ f. begun_switch source.now part.now at (state_of machine.old) ≡ Err (stopped f (state_of machine.new))) }
     ensures more { OnOk result (machine.old.taken ≤ machine.new.taken) }
     ensures within { OnOk result (machine.new.taken ≤ 16777216) }
+    ensures said { machine.new.messages.items ≡ machine.old.messages.items }
 {
     let inside = machine.deeper(source, at, part.depth)?;
     machine.count(source, at + 1)?;
@@ -310,5 +327,6 @@ pub fn begin_switch(
         machine.given(),
         Then::Choose(limit),
         source.end(Closer::End, at + 2) + 2,
+        inner,
     ))
 }

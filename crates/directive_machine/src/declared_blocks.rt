@@ -1,5 +1,6 @@
 // Blocks that are declared, and lists that were handed out aside.
 ghost use Rattle.std.specs.Prelude.{◌≡◌, ◌≢◌, ◌<◌, ◌≤◌, ◌+◌, Some, Ok, Err, IfOk, IfErr, OnOk, drop};
+ghost use Rattle.directive_machine.specs.Moves.{next_of};
 ghost use Rattle.directive_machine.specs.State.{stopped, settled, restored};
 ghost use Rattle.directive_machine.specs.Holds.{closes_last, is_block_kind, is_one_block, held_block, stop_passed, made_block};
 ghost use Rattle.directive_machine.specs.Weights.{is_light};
@@ -9,7 +10,7 @@ ghost use Rattle.directive_machine.specs.declared.stop.Stop.TheVariants.{NoMemor
 
 use crate::declares::{bind_in, copied};
 use crate::machine::{Machine, wrong};
-use crate::part::{Next, Part};
+use crate::part::{Part, Rest};
 use crate::stop::Stop;
 use scene_lexer::{Kind, Token};
 use scope_tables::{Binding, Block};
@@ -98,6 +99,7 @@ impl Machine {
         ensures list { IfOk result (λ list. list ≡ drop from self.old.out.items) }
         ensures state { OnOk result (state_of self.new ≡ restored from (state_of self.old)) }
         ensures fault { IfErr result (λ f. f ≡ NoMemory) }
+        ensures said { self.new.messages.items ≡ self.old.messages.items }
     {
         match copied(alloc, behind(self.out.as_slice(), from)) {
             Ok(list) => {
@@ -116,17 +118,19 @@ pub fn hold(
     part: &Part,
     name: usize,
     local: bool,
-) -> Result<Next, Stop>
+    further: &mut Part,
+) -> Result<Rest, Stop>
     requires taken { machine.old.taken ≤ 16777216 }
-    ensures ok { IfOk result (λ next. held_block part.now name local (state_of machine.old) ≡ Ok (settled next (state_of machine.new))) }
+    ensures ok { IfOk result (λ next. held_block part.now name local (state_of machine.old) ≡ Ok (settled (next_of next further.new) (state_of machine.new))) }
     ensures fault { IfErr result (λ f. f ≢ NoMemory → held_block part.now name local (state_of machine.old) ≡ Err (stopped f (state_of machine.new))) }
-    ensures light { IfOk result is_light }
+    ensures light { IfOk result (λ next. is_light (next_of next further.new)) }
     ensures more { OnOk result (machine.old.taken ≤ machine.new.taken) }
     ensures within { OnOk result (machine.new.taken ≤ 16777216) }
+    ensures said { machine.new.messages.items ≡ machine.old.messages.items }
 {
     let block = machine.take_aside(alloc, part.from)?;
     bind_in(machine, local, name, Binding::Block(block))?;
-    Ok(Next::Done(false))
+    Ok(Rest::Done(false))
 }
 
 fn pass_stop(source: &Written, machine: &mut Machine, stop: bool, at: usize) -> Result<(), Stop>
@@ -135,6 +139,7 @@ fn pass_stop(source: &Written, machine: &mut Machine, stop: bool, at: usize) -> 
     ensures fault { IfErr result (λ f. stop_passed source.now stop at (state_of machine.old) ≡ Err (stopped f (state_of machine.new))) }
     ensures more { OnOk result (machine.old.taken ≤ machine.new.taken) }
     ensures within { OnOk result (machine.new.taken ≤ 16777216) }
+    ensures said { machine.new.messages.items ≡ machine.old.messages.items }
 {
     if stop {
         machine.count(source, at)?;
@@ -151,17 +156,19 @@ pub fn make_block(
     name: usize,
     local: bool,
     stop: bool,
-) -> Result<Next, Stop>
+    further: &mut Part,
+) -> Result<Rest, Stop>
     requires taken { machine.old.taken ≤ 16777216 }
-    ensures ok { IfOk result (λ next. made_block source.now part.now name local stop (state_of machine.old) ≡ Ok (settled next (state_of machine.new))) }
+    ensures ok { IfOk result (λ next. made_block source.now part.now name local stop (state_of machine.old) ≡ Ok (settled (next_of next further.new) (state_of machine.new))) }
     ensures fault { IfErr result (λ f. f ≢ NoMemory → made_block source.now part.now name local stop (state_of machine.old) ≡ Err (stopped f (state_of machine.new))) }
-    ensures light { IfOk result is_light }
+    ensures light { IfOk result (λ next. is_light (next_of next further.new)) }
     ensures more { OnOk result (machine.old.taken ≤ machine.new.taken) }
     ensures within { OnOk result (machine.new.taken ≤ 16777216) }
+    ensures said { machine.new.messages.items ≡ machine.old.messages.items }
 {
     if !part.closed {
         return Err(wrong(4, source, part.end));
     }
     pass_stop(source, machine, stop, part.end)?;
-    hold(alloc, machine, part, name, local)
+    hold(alloc, machine, part, name, local, further)
 }

@@ -1,5 +1,6 @@
 // Declarations, macros, and the other directives without an `#end`.
 ghost use Rattle.std.specs.Prelude.{◌≡◌, ◌≢◌, ◌<◌, ◌≤◌, ◌+◌, ◌^◌, Ok, Err, IfOk, IfErr, OnOk, option_map, slice_get};
+ghost use Rattle.directive_machine.specs.Moves.{action_of};
 ghost use Rattle.directive_machine.specs.State.{stopped, begun, counted};
 ghost use Rattle.directive_machine.specs.Declares.{bound_as, has_stop, stop_taken, behind_stop, block_in, block_by, block_at, begun_block, begun_copy, begun_list, begun_side, begun_declare, unbound, begun_undef, refused_at, word_told, told_by, told, all_named, begun_name, begun_message, begun_include, is_float, is_version, version_taken, begun_version, separated, parameters, parameters_of, macro_of, begun_macro};
 ghost use Rattle.directive_machine.specs.Carried.{state_of};
@@ -7,7 +8,7 @@ ghost use Rattle.directive_machine.specs.declared.stop.Stop.TheVariants.{NoMemor
 
 use crate::blocks::opened;
 use crate::machine::{Machine, wrong};
-use crate::part::{Action, Part, Span, Then};
+use crate::part::{Lead, Part, Span, Then};
 use crate::stop::Stop;
 use scene_expr::Value;
 use scene_lexer::Token;
@@ -23,7 +24,7 @@ pub fn bind(
     binding: Binding,
 ) -> Result<(), AllocError>
     ensures ok { OnOk result (state_of machine.new ≡ bound_as local name binding (state_of machine.old)) }
-    ensures messages { machine.new.messages ≡ machine.old.messages }
+    ensures said { machine.new.messages.items ≡ machine.old.messages.items }
 {
     if local {
         machine.scopes.bind(name, binding)?;
@@ -46,6 +47,7 @@ fn take_stop(source: &Written, machine: &mut Machine, at: usize, end: usize) -> 
     ensures fault { IfErr result (λ f. stop_taken source.now at end (state_of machine.old) ≡ Err (stopped f (state_of machine.new))) }
     ensures more { OnOk result (machine.old.taken ≤ machine.new.taken) }
     ensures within { OnOk result (machine.new.taken ≤ 16777216) }
+    ensures said { machine.new.messages.items ≡ machine.old.messages.items }
 {
     if has_stop(source, at, end) {
         machine.count(source, at)?;
@@ -72,13 +74,15 @@ fn begin_block(
     local: bool,
     name: usize,
     at: usize,
-) -> Result<Action, Stop>
+    inner: &mut Part,
+) -> Result<Lead, Stop>
     requires place { at < 2 ^ 25 }
     requires taken { machine.old.taken ≤ 16777216 }
-    ensures ok { IfOk result (λ action. begun_block source.now part.now local name at (state_of machine.old) ≡ Ok (begun action (state_of machine.new))) }
+    ensures ok { IfOk result (λ action. begun_block source.now part.now local name at (state_of machine.old) ≡ Ok (begun (action_of action inner.new) (state_of machine.new))) }
     ensures fault { IfErr result (λ f. begun_block source.now part.now local name at (state_of machine.old) ≡ Err (stopped f (state_of machine.new))) }
     ensures more { OnOk result (machine.old.taken ≤ machine.new.taken) }
     ensures within { OnOk result (machine.new.taken ≤ 16777216) }
+    ensures said { machine.new.messages.items ≡ machine.old.messages.items }
 {
     let brace = source.end(Closer::Brace, at + 2);
     let list = Span {
@@ -99,6 +103,7 @@ fn begin_block(
         machine.given(),
         then,
         behind,
+        inner,
     ))
 }
 
@@ -142,18 +147,20 @@ fn begin_copy(
     name: usize,
     at: usize,
     block: Vec<Token>,
-) -> Result<Action, Stop>
+    inner: &mut Part,
+) -> Result<Lead, Stop>
     requires place { at < 2 ^ 25 }
     requires taken { machine.old.taken ≤ 16777216 }
-    ensures ok { IfOk result (λ action. begun_copy source.now part.now local name at block.items (state_of machine.old) ≡ Ok (begun action (state_of machine.new))) }
+    ensures ok { IfOk result (λ action. begun_copy source.now part.now local name at block.items (state_of machine.old) ≡ Ok (begun (action_of action inner.new) (state_of machine.new))) }
     ensures fault { IfErr result (λ f. f ≢ NoMemory → begun_copy source.now part.now local name at block.items (state_of machine.old) ≡ Err (stopped f (state_of machine.new))) }
     ensures more { OnOk result (machine.old.taken ≤ machine.new.taken) }
     ensures within { OnOk result (machine.new.taken ≤ 16777216) }
+    ensures said { machine.new.messages.items ≡ machine.old.messages.items }
 {
     machine.count(source, at)?;
     take_stop(source, machine, at + 1, part.end)?;
     bind_in(machine, local, name, Binding::Block(Block::new(block)))?;
-    Ok(Action::Step(behind_stop(source, at + 1, part.end)))
+    Ok(Lead::Step(behind_stop(source, at + 1, part.end)))
 }
 
 /// Binds a name; its only fault is want of memory.
@@ -165,6 +172,7 @@ pub fn bind_in(
 ) -> Result<(), Stop>
     ensures ok { OnOk result (state_of machine.new ≡ bound_as local name binding (state_of machine.old)) }
     ensures fault { IfErr result (λ f. f ≡ NoMemory) }
+    ensures said { machine.new.messages.items ≡ machine.old.messages.items }
 {
     if bind(machine, local, name, binding).is_err() {
         return Err(Stop::NoMemory);
@@ -180,13 +188,15 @@ fn begin_list(
     local: bool,
     name: usize,
     at: usize,
-) -> Result<Action, Stop>
+    inner: &mut Part,
+) -> Result<Lead, Stop>
     requires place { at < 2 ^ 25 }
     requires taken { machine.old.taken ≤ 16777216 }
-    ensures ok { IfOk result (λ action. begun_list source.now part.now local name at (state_of machine.old) ≡ Ok (begun action (state_of machine.new))) }
+    ensures ok { IfOk result (λ action. begun_list source.now part.now local name at (state_of machine.old) ≡ Ok (begun (action_of action inner.new) (state_of machine.new))) }
     ensures fault { IfErr result (λ f. begun_list source.now part.now local name at (state_of machine.old) ≡ Err (stopped f (state_of machine.new))) }
     ensures more { OnOk result (machine.old.taken ≤ machine.new.taken) }
     ensures within { OnOk result (machine.new.taken ≤ 16777216) }
+    ensures said { machine.new.messages.items ≡ machine.old.messages.items }
 {
     let end = source.end(Closer::Semicolon, at);
     let list = Span {
@@ -201,6 +211,7 @@ fn begin_list(
         machine.given(),
         Then::Bind { name, local },
         end + 1,
+        inner,
     ))
 }
 
@@ -213,20 +224,22 @@ fn begin_name(
     local: bool,
     name: usize,
     at: usize,
-) -> Result<Action, Stop>
+    inner: &mut Part,
+) -> Result<Lead, Stop>
     requires place { at < 2 ^ 25 }
     requires taken { machine.old.taken ≤ 16777216 }
-    ensures ok { IfOk result (λ action. begun_name source.now part.now local name at (block_at source.now at machine.old.scopes) (state_of machine.old) ≡ Ok (begun action (state_of machine.new))) }
+    ensures ok { IfOk result (λ action. begun_name source.now part.now local name at (block_at source.now at machine.old.scopes) (state_of machine.old) ≡ Ok (begun (action_of action inner.new) (state_of machine.new))) }
     ensures fault { IfErr result (λ f. f ≢ NoMemory → begun_name source.now part.now local name at (block_at source.now at machine.old.scopes) (state_of machine.old) ≡ Err (stopped f (state_of machine.new))) }
     ensures more { OnOk result (machine.old.taken ≤ machine.new.taken) }
     ensures within { OnOk result (machine.new.taken ≤ 16777216) }
+    ensures said { machine.new.messages.items ≡ machine.old.messages.items }
 {
     match block_at(source, machine, at) {
         Some(block) => match copied(alloc, block) {
-            Ok(copy) => begin_copy(source, machine, part, local, name, at, copy),
+            Ok(copy) => begin_copy(source, machine, part, local, name, at, copy, inner),
             Err(_) => Err(Stop::NoMemory),
         },
-        None => begin_list(source, machine, part, local, name, at),
+        None => begin_list(source, machine, part, local, name, at, inner),
     }
 }
 
@@ -238,20 +251,22 @@ fn begin_side(
     local: bool,
     name: usize,
     at: usize,
-) -> Result<Action, Stop>
+    inner: &mut Part,
+) -> Result<Lead, Stop>
     requires place { at < 2 ^ 25 }
     requires taken { machine.old.taken ≤ 16777216 }
-    ensures ok { IfOk result (λ action. begun_side source.now part.now local name at (state_of machine.old) ≡ Ok (begun action (state_of machine.new))) }
+    ensures ok { IfOk result (λ action. begun_side source.now part.now local name at (state_of machine.old) ≡ Ok (begun (action_of action inner.new) (state_of machine.new))) }
     ensures fault { IfErr result (λ f. f ≢ NoMemory → begun_side source.now part.now local name at (state_of machine.old) ≡ Err (stopped f (state_of machine.new))) }
     ensures more { OnOk result (machine.old.taken ≤ machine.new.taken) }
     ensures within { OnOk result (machine.new.taken ≤ 16777216) }
+    ensures said { machine.new.messages.items ≡ machine.old.messages.items }
 {
     if is_block(source.marks(), at) {
-        begin_block(source, machine, part, local, name, at)
+        begin_block(source, machine, part, local, name, at, inner)
     } else if at < part.end {
-        begin_name(alloc, source, machine, part, local, name, at)
+        begin_name(alloc, source, machine, part, local, name, at, inner)
     } else {
-        begin_list(source, machine, part, local, name, at)
+        begin_list(source, machine, part, local, name, at, inner)
     }
 }
 
@@ -263,24 +278,27 @@ pub fn begin_declare(
     part: &Part,
     local: bool,
     at: usize,
-) -> Result<Action, Stop>
+    inner: &mut Part,
+) -> Result<Lead, Stop>
     requires place { at < 2 ^ 24 }
     requires taken { machine.old.taken ≤ 16777216 }
-    ensures ok { IfOk result (λ action. begun_declare source.now part.now local at (state_of machine.old) ≡ Ok (begun action (state_of machine.new))) }
+    ensures ok { IfOk result (λ action. begun_declare source.now part.now local at (state_of machine.old) ≡ Ok (begun (action_of action inner.new) (state_of machine.new))) }
     ensures fault { IfErr result (λ f. f ≢ NoMemory → begun_declare source.now part.now local at (state_of machine.old) ≡ Err (stopped f (state_of machine.new))) }
     ensures more { OnOk result (machine.old.taken ≤ machine.new.taken) }
     ensures within { OnOk result (machine.new.taken ≤ 16777216) }
+    ensures said { machine.new.messages.items ≡ machine.old.messages.items }
 {
     machine.count(source, at + 1)?;
     let name = machine.name(source, at + 2, part.end)?;
     machine.pass(b'=', source, at + 3, part.end)?;
-    let action = begin_side(alloc, source, machine, part, local, name, at + 4)?;
+    let action = begin_side(alloc, source, machine, part, local, name, at + 4, inner)?;
     Ok(action)
 }
 
 fn unbind(machine: &mut Machine, name: Option<usize>)
     ensures state { state_of machine.new ≡ unbound name (state_of machine.old) }
     ensures taken { machine.new.taken ≡ machine.old.taken }
+    ensures said { machine.new.messages.items ≡ machine.old.messages.items }
 {
     match name {
         Some(name) => machine.scopes.remove(name),
@@ -294,18 +312,20 @@ pub fn begin_undef(
     machine: &mut Machine,
     part: &Part,
     at: usize,
-) -> Result<Action, Stop>
+    inner: &mut Part,
+) -> Result<Lead, Stop>
     requires place { at < 2 ^ 24 }
     requires taken { machine.old.taken ≤ 16777216 }
-    ensures ok { IfOk result (λ action. begun_undef source.now part.now at (state_of machine.old) ≡ Ok (begun action (state_of machine.new))) }
+    ensures ok { IfOk result (λ action. begun_undef source.now part.now at (state_of machine.old) ≡ Ok (begun (action_of action inner.new) (state_of machine.new))) }
     ensures fault { IfErr result (λ f. begun_undef source.now part.now at (state_of machine.old) ≡ Err (stopped f (state_of machine.new))) }
     ensures more { OnOk result (machine.old.taken ≤ machine.new.taken) }
     ensures within { OnOk result (machine.new.taken ≤ 16777216) }
+    ensures said { machine.new.messages.items ≡ machine.old.messages.items }
 {
     machine.count(source, at + 1)?;
     let name = machine.ask(source, at + 2, part.end)?;
     unbind(machine, name);
-    Ok(Action::Step(at + 3))
+    Ok(Lead::Step(at + 3))
 }
 
 fn tell_word(
@@ -315,9 +335,10 @@ fn tell_word(
     depth: u32,
     at: usize,
     then: Then,
-) -> Action
+    inner: &mut Part,
+) -> Lead
     requires { at < 2 ^ 25 }
-    ensures { word_told source.now part.now depth at then (state_of machine.now) ≡ Ok (begun result (state_of machine.now)) }
+    ensures { word_told source.now part.now depth at then (state_of machine.now) ≡ Ok (begun (action_of result inner.new) (state_of machine.now)) }
 {
     if at + 1 < part.end && sign_at(source.marks(), at + 1) == b'(' {
         let close = source.end(Closer::Parenthesis, at + 2);
@@ -333,10 +354,20 @@ fn tell_word(
             machine.given(),
             then,
             close + 1,
+            inner,
         )
     } else {
         let list = Span { at, end: at + 1 };
-        opened(part, depth, list, true, machine.given(), then, at + 1)
+        opened(
+            part,
+            depth,
+            list,
+            true,
+            machine.given(),
+            then,
+            at + 1,
+            inner,
+        )
     }
 }
 
@@ -348,13 +379,15 @@ fn tell(
     depth: u32,
     at: usize,
     then: Then,
-) -> Result<Action, Stop>
+    inner: &mut Part,
+) -> Result<Lead, Stop>
     requires place { at < 2 ^ 25 }
     requires taken { machine.old.taken ≤ 16777216 }
-    ensures ok { IfOk result (λ action. told source.now part.now depth at then (state_of machine.old) ≡ Ok (begun action (state_of machine.new))) }
+    ensures ok { IfOk result (λ action. told source.now part.now depth at then (state_of machine.old) ≡ Ok (begun (action_of action inner.new) (state_of machine.new))) }
     ensures fault { IfErr result (λ f. told source.now part.now depth at then (state_of machine.old) ≡ Err (stopped f (state_of machine.new))) }
     ensures more { OnOk result (machine.old.taken ≤ machine.new.taken) }
     ensures within { OnOk result (machine.new.taken ≤ 16777216) }
+    ensures said { machine.new.messages.items ≡ machine.old.messages.items }
 {
     if at >= part.end {
         return Err(wrong(4, source, at));
@@ -362,20 +395,35 @@ fn tell(
     match source.mark(at) {
         Some(Mark::Text) => {
             let list = Span { at, end: at + 1 };
-            Ok(opened(part, depth, list, true, machine.given(), then, at + 1))
+            Ok(opened(
+                part,
+                depth,
+                list,
+                true,
+                machine.given(),
+                then,
+                at + 1,
+                inner,
+            ))
         }
-        Some(Mark::Name(_)) => Ok(tell_word(source, machine, part, depth, at, then)),
-        Some(Mark::Known(_)) => Ok(tell_word(source, machine, part, depth, at, then)),
-        Some(Mark::Number) => refuse(source, machine, at),
-        Some(Mark::Sign(_)) => refuse(source, machine, at),
-        None => refuse(source, machine, at),
+        Some(Mark::Name(_)) => Ok(tell_word(source, machine, part, depth, at, then, inner)),
+        Some(Mark::Known(_)) => Ok(tell_word(source, machine, part, depth, at, then, inner)),
+        Some(Mark::Number) => refuse(source, machine, at, inner),
+        Some(Mark::Sign(_)) => refuse(source, machine, at, inner),
+        None => refuse(source, machine, at, inner),
     }
 }
 
 /// A token that doesn't fit is taken, and then refused.
-fn refuse(source: &Written, machine: &mut Machine, at: usize) -> Result<Action, Stop>
+fn refuse(
+    source: &Written,
+    machine: &mut Machine,
+    at: usize,
+    inner: &mut Part,
+) -> Result<Lead, Stop>
     ensures ok { OnOk result ⊥ }
     ensures fault { IfErr result (λ f. refused_at source.now at (state_of machine.old) ≡ Err (stopped f (state_of machine.new))) }
+    ensures said { machine.new.messages.items ≡ machine.old.messages.items }
 {
     machine.count(source, at)?;
     Err(wrong(4, source, at))
@@ -388,17 +436,19 @@ pub fn begin_message(
     part: &Part,
     error: bool,
     at: usize,
-) -> Result<Action, Stop>
+    inner: &mut Part,
+) -> Result<Lead, Stop>
     requires place { at < 2 ^ 24 }
     requires taken { machine.old.taken ≤ 16777216 }
-    ensures ok { IfOk result (λ action. begun_message source.now part.now error at (state_of machine.old) ≡ Ok (begun action (state_of machine.new))) }
+    ensures ok { IfOk result (λ action. begun_message source.now part.now error at (state_of machine.old) ≡ Ok (begun (action_of action inner.new) (state_of machine.new))) }
     ensures fault { IfErr result (λ f. begun_message source.now part.now error at (state_of machine.old) ≡ Err (stopped f (state_of machine.new))) }
     ensures more { OnOk result (machine.old.taken ≤ machine.new.taken) }
     ensures within { OnOk result (machine.new.taken ≤ 16777216) }
+    ensures said { machine.new.messages.items ≡ machine.old.messages.items }
 {
     machine.count(source, at + 1)?;
     let then = Then::Say { error, at: at + 2 };
-    let action = tell(source, machine, part, part.depth, at + 2, then)?;
+    let action = tell(source, machine, part, part.depth, at + 2, then, inner)?;
     Ok(action)
 }
 
@@ -408,17 +458,27 @@ pub fn begin_include(
     machine: &mut Machine,
     part: &Part,
     at: usize,
-) -> Result<Action, Stop>
+    inner: &mut Part,
+) -> Result<Lead, Stop>
     requires place { at < 2 ^ 24 }
     requires taken { machine.old.taken ≤ 16777216 }
-    ensures ok { IfOk result (λ action. begun_include source.now part.now at (state_of machine.old) ≡ Ok (begun action (state_of machine.new))) }
+    ensures ok { IfOk result (λ action. begun_include source.now part.now at (state_of machine.old) ≡ Ok (begun (action_of action inner.new) (state_of machine.new))) }
     ensures fault { IfErr result (λ f. begun_include source.now part.now at (state_of machine.old) ≡ Err (stopped f (state_of machine.new))) }
     ensures more { OnOk result (machine.old.taken ≤ machine.new.taken) }
     ensures within { OnOk result (machine.new.taken ≤ 16777216) }
+    ensures said { machine.new.messages.items ≡ machine.old.messages.items }
 {
     let inside = machine.deeper(source, at, part.depth)?;
     machine.count(source, at + 1)?;
-    let action = tell(source, machine, part, inside, at + 2, Then::Read(at + 2))?;
+    let action = tell(
+        source,
+        machine,
+        part,
+        inside,
+        at + 2,
+        Then::Read(at + 2),
+        inner,
+    )?;
     Ok(action)
 }
 
@@ -451,13 +511,15 @@ pub fn begin_version(
     machine: &mut Machine,
     part: &Part,
     at: usize,
-) -> Result<Action, Stop>
+    inner: &mut Part,
+) -> Result<Lead, Stop>
     requires place { at < 2 ^ 24 }
     requires taken { machine.old.taken ≤ 16777216 }
-    ensures ok { IfOk result (λ action. begun_version source.now part.now at (state_of machine.old) ≡ Ok (begun action (state_of machine.new))) }
+    ensures ok { IfOk result (λ action. begun_version source.now part.now at (state_of machine.old) ≡ Ok (begun (action_of action inner.new) (state_of machine.new))) }
     ensures fault { IfErr result (λ f. begun_version source.now part.now at (state_of machine.old) ≡ Err (stopped f (state_of machine.new))) }
     ensures more { OnOk result (machine.old.taken ≤ machine.new.taken) }
     ensures within { OnOk result (machine.new.taken ≤ 16777216) }
+    ensures said { machine.new.messages.items ≡ machine.old.messages.items }
 {
     machine.count(source, at + 1)?;
     if at + 2 >= part.end {
@@ -468,7 +530,7 @@ pub fn begin_version(
         return Err(wrong(4, source, at + 2));
     }
     take_stop(source, machine, at + 3, part.end)?;
-    Ok(Action::Step(behind_stop(source, at + 3, part.end)))
+    Ok(Lead::Step(behind_stop(source, at + 3, part.end)))
 }
 
 /// Takes the comma or the `)` behind a parameter.
@@ -477,6 +539,7 @@ fn separate(source: &Written, machine: &mut Machine, at: usize, end: usize) -> R
     ensures fault { IfErr result (λ f. separated source.now at end (state_of machine.old) ≡ Err (stopped f (state_of machine.new))) }
     ensures more { OnOk result (machine.old.taken ≤ machine.new.taken) }
     ensures within { OnOk result (machine.new.taken ≤ 16777216) }
+    ensures said { machine.new.messages.items ≡ machine.old.messages.items }
 {
     if at >= end {
         return Err(wrong(4, source, at));
@@ -504,6 +567,7 @@ fn parameters(
     ensures fault { IfErr result (λ f. parameters source.now end end 0 first (state_of machine.old) ≡ Err (stopped f (state_of machine.new))) }
     ensures more { OnOk result (machine.old.taken ≤ machine.new.taken) }
     ensures within { OnOk result (machine.new.taken ≤ 16777216) }
+    ensures said { machine.new.messages.items ≡ machine.old.messages.items }
 {
     let mut left = end;
     let mut count = 0;
@@ -534,6 +598,7 @@ fn parameters_of(
     ensures fault { IfErr result (λ f. parameters_of source.now at end (state_of machine.old) ≡ Err (stopped f (state_of machine.new))) }
     ensures more { OnOk result (machine.old.taken ≤ machine.new.taken) }
     ensures within { OnOk result (machine.new.taken ≤ 16777216) }
+    ensures said { machine.new.messages.items ≡ machine.old.messages.items }
 {
     if at < end && sign_at(source.marks(), at) == b')' {
         machine.count(source, at)?;
@@ -549,13 +614,15 @@ pub fn begin_macro(
     machine: &mut Machine,
     part: &Part,
     at: usize,
-) -> Result<Action, Stop>
+    inner: &mut Part,
+) -> Result<Lead, Stop>
     requires place { at < 2 ^ 24 }
     requires taken { machine.old.taken ≤ 16777216 }
-    ensures ok { IfOk result (λ action. begun_macro source.now part.now at (state_of machine.old) ≡ Ok (begun action (state_of machine.new))) }
+    ensures ok { IfOk result (λ action. begun_macro source.now part.now at (state_of machine.old) ≡ Ok (begun (action_of action inner.new) (state_of machine.new))) }
     ensures fault { IfErr result (λ f. f ≢ NoMemory → begun_macro source.now part.now at (state_of machine.old) ≡ Err (stopped f (state_of machine.new))) }
     ensures more { OnOk result (machine.old.taken ≤ machine.new.taken) }
     ensures within { OnOk result (machine.new.taken ≤ 16777216) }
+    ensures said { machine.new.messages.items ≡ machine.old.messages.items }
 {
     machine.count(source, at + 1)?;
     let end = source.end(Closer::End, at + 2);
@@ -570,5 +637,5 @@ pub fn begin_macro(
         end,
     };
     bind_in(machine, false, name, Binding::Macro(called))?;
-    Ok(Action::Step(end + 2))
+    Ok(Lead::Step(end + 2))
 }

@@ -1,10 +1,11 @@
 // What a scene comes to once its directives are carried out.
-ghost use Rattle.std.specs.Prelude.{◌≡◌, ◌≢◌, [], List, Some, option_copied, Ok, Err, IfOk, IfErr, OnOk, IsErrOf};
+ghost use Rattle.std.specs.Prelude.{◌≡◌, ◌≢◌, [], List, Result, Some, option_copied, Ok, Err, IfOk, IfErr, OnOk, IsErrOf};
 ghost use Rattle.shelf.specs.Causes.{HasCause};
 ghost use Rattle.scene_expr.specs.Values.{AreWhole};
 ghost use Rattle.directive_machine.specs.declared.texts.Text.{Text};
 ghost use Rattle.directive_machine.specs.Carried.{state_of};
-ghost use Rattle.directive_machine.specs.Course.{halted};
+ghost use Rattle.directive_machine.specs.Course.{Course, Halted, halted};
+ghost use Rattle.directive_machine.specs.Fronts.{IsFront, said_in};
 ghost use Rattle.directive_machine.specs.Read.{sources_of, course_of};
 ghost use Rattle.directive_machine.specs.Expansions.{first_state, no_sources, start, first_text, whole_part, IsExpanded, IsExpandedFrom, IsExpansion, ComesTo, StopsAt};
 ghost use Rattle.directive_machine.specs.Sources.{opened};
@@ -23,6 +24,7 @@ use scene_expr::Settings;
 use scene_lexer::Place;
 use scope_tables::Names;
 use std::alloc::Global;
+use text_structure::one_end;
 
 /// The start of the first text.
 const START: Place = Place {
@@ -118,6 +120,7 @@ fn expand_whole<T: Texts>(
     requires state { state_of machine.old ≡ first_state }
     ensures ok { OnOk result ((h : List Text) → T.held texts.old ≡ Some h → IsExpanded (record { settings = set.now; libraries = libraries.now; held = h }) (opened number (sources_of readings.old)) (Ok (course_of machine.new readings.new))) }
     ensures fault { IfErr result (λ f. f ≢ NoMemory → f ≢ TextFault → (h : List Text) → T.held texts.old ≡ Some h → IsExpanded (record { settings = set.now; libraries = libraries.now; held = h }) (opened number (sources_of readings.old)) (Err (halted f (course_of machine.new readings.new)))) }
+    ensures said { IfErr result (λ f. (h : List Text) → T.held texts.old ≡ Some h → (r : Result Course Halted) → IsExpanded (record { settings = set.now; libraries = libraries.now; held = h }) (opened number (sources_of readings.old)) r → IsFront machine.new.messages.items (said_in r)) }
     ensures cause { HasCause (T.faults texts.old) (T.faults texts.new) (IsErrOf result TextFault) }
     ensures held { T.held texts.new ≡ T.held texts.old }
 {
@@ -144,9 +147,11 @@ fn expand_text<T: Texts>(
     requires sources { sources_of readings.old ≡ no_sources }
     ensures ok { OnOk result ((h : List Text) → T.held texts.old ≡ Some h → IsExpandedFrom (record { settings = set.now; libraries = libraries.now; held = h }) file (Ok (course_of machine.new readings.new))) }
     ensures fault { IfErr result (λ f. f ≢ NoMemory → f ≢ TextFault → (h : List Text) → T.held texts.old ≡ Some h → IsExpandedFrom (record { settings = set.now; libraries = libraries.now; held = h }) file (Err (halted f (course_of machine.new readings.new)))) }
+    ensures said { IfErr result (λ f. (h : List Text) → T.held texts.old ≡ Some h → (r : Result Course Halted) → IsExpandedFrom (record { settings = set.now; libraries = libraries.now; held = h }) file r → IsFront machine.new.messages.items (said_in r)) }
     ensures cause { HasCause (T.faults texts.old) (T.faults texts.new) (IsErrOf result TextFault) }
     ensures held { T.held texts.new ≡ T.held texts.old }
 {
+    one_end();
     let number = readings.open(alloc, file, START)?;
     expand_whole(alloc, number, libraries, set, texts, readings, machine)?;
     Ok(())
@@ -168,6 +173,7 @@ fn expand_first<T: Texts>(
     requires sources { sources_of readings.old ≡ no_sources }
     ensures ok { OnOk result ((h : List Text) → T.held texts.old ≡ Some h → IsExpansion (record { settings = set.now; libraries = libraries.now; held = h }) first.now (option_copied given.entry) (Ok (course_of machine.new readings.new))) }
     ensures fault { IfErr result (λ f. f ≢ NoMemory → f ≢ TextFault → (h : List Text) → T.held texts.old ≡ Some h → IsExpansion (record { settings = set.now; libraries = libraries.now; held = h }) first.now (option_copied given.entry) (Err (halted f (course_of machine.new readings.new)))) }
+    ensures said { IfErr result (λ f. (h : List Text) → T.held texts.old ≡ Some h → (r : Result Course Halted) → IsExpansion (record { settings = set.now; libraries = libraries.now; held = h }) first.now (option_copied given.entry) r → IsFront machine.new.messages.items (said_in r)) }
     ensures cause { HasCause (T.faults texts.old) (T.faults texts.new) (IsErrOf result TextFault) }
     ensures held { T.held texts.new ≡ T.held texts.old }
 {
@@ -182,7 +188,8 @@ fn expand_first<T: Texts>(
 
 /// What a scene comes to once its directives are carried out, by the name of its first text. A text that is given
 /// is the first one, and isn't looked for. `messages` gains the bytes of the messages, and `names` the names under
-/// which texts were found, in order of first reading, up to the end or the fault.
+/// which texts were found, in order of first reading, up to the end or the fault. Whatever stops it, what was said up
+/// to there stands first in what is said by all that the texts come to.
 pub fn expand<T: Texts>(
     alloc: Global,
     first: &[u8],
@@ -198,6 +205,7 @@ pub fn expand<T: Texts>(
     requires names { names.old.items ≡ [] }
     ensures found { IfOk result (λ flat. (h : List Text) → T.held texts.old ≡ Some h → ComesTo (record { settings = set.now; libraries = libraries.now; held = h }) first.now (option_copied given.entry) (record { tokens = flat.tokens.items; files = flat.files.items; messages = messages.new.items; names = names.new.items })) }
     ensures fault { IfErr result (λ f. f ≢ NoMemory → f ≢ TextFault → (h : List Text) → T.held texts.old ≡ Some h → StopsAt (record { settings = set.now; libraries = libraries.now; held = h }) first.now (option_copied given.entry) (record { stop = f; messages = messages.new.items; names = names.new.items })) }
+    ensures said { IfErr result (λ f. (h : List Text) → T.held texts.old ≡ Some h → (r : Result Course Halted) → IsExpansion (record { settings = set.now; libraries = libraries.now; held = h }) first.now (option_copied given.entry) r → IsFront messages.new.items (said_in r)) }
     ensures cause { HasCause (T.faults texts.old) (T.faults texts.new) (IsErrOf result TextFault) }
     ensures held { T.held texts.new ≡ T.held texts.old }
 {

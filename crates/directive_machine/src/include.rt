@@ -5,6 +5,7 @@ ghost use Rattle.scene_expr.specs.Heads.{place_at};
 ghost use Rattle.scene_expr.specs.Values.{AreWhole};
 ghost use Rattle.scope_tables.specs.Names.{entered};
 ghost use Rattle.directive_machine.specs.declared.texts.Text.{Text};
+ghost use Rattle.directive_machine.specs.Moves.{next_of};
 ghost use Rattle.directive_machine.specs.State.{stopped};
 ghost use Rattle.directive_machine.specs.Carried.{state_of};
 ghost use Rattle.directive_machine.specs.Sources.{found_under, found_beneath, found_text, beneath, text_at, opened};
@@ -15,9 +16,9 @@ ghost use Rattle.directive_machine.specs.Weights.{is_light, keeps_measure};
 ghost use Rattle.directive_machine.specs.declared.stop.Stop.TheVariants.{NoMemory, TextFault};
 
 use crate::flat::Source;
-use crate::machine::{Machine, of_step};
+use crate::machine::Machine;
 use crate::made::text_of;
-use crate::part::{Next, Part, Then};
+use crate::part::{Part, Rest, Then};
 use crate::readings::Readings;
 use crate::stop::Stop;
 use crate::texts::{ReadFail, Texts};
@@ -122,6 +123,7 @@ fn ask(
     ensures fault { IfErr result (λ f. f ≢ NoMemory → IsAsked set.now source.now part.now (state_of machine.old) (Err (stopped f (state_of machine.new)))) }
     ensures more { OnOk result (machine.old.taken < machine.new.taken) }
     ensures within { OnOk result (machine.new.taken ≤ 16777216) }
+    ensures said { machine.new.messages.items ≡ machine.old.messages.items }
 {
     let found = value(alloc, set, source, machine, part)?;
     let name = text_of(found.value, found.first)?;
@@ -144,36 +146,36 @@ fn ask_in(
     ensures outside { IfErr result (λ f. f ≢ TextFault) }
     ensures more { OnOk result (machine.old.taken < machine.new.taken) }
     ensures within { OnOk result (machine.new.taken ≤ 16777216) }
+    ensures said { machine.new.messages.items ≡ machine.old.messages.items }
 {
     match readings.text(part.text) {
-        Some(source) => match ask(alloc, set, source, machine, part) {
-            Ok(name) => Ok((name, place_at(source.tokens(), at))),
-            Err(stop) => Err(of_step(stop)),
-        },
+        Some(source) => {
+            let name = ask(alloc, set, source, machine, part)?;
+            Ok((name, place_at(source.tokens(), at)))
+        }
         None => Err(Stop::NoMemory),
     }
 }
 
-/// The whole of a text that is included; it is left with its scope.
-fn included(part: &Part, number: usize, end: usize) -> Part
-    ensures { result ≡ included part.now number end }
+/// Writes the whole of a text down that is included; it is left with its scope.
+fn lay(part: &Part, number: usize, end: usize, further: &mut Part)
+    ensures { further.new ≡ included part.now number end }
 {
-    Part {
-        text: number,
-        depth: part.depth,
-        at: 0,
-        end,
-        closed: false,
-        from: 0,
-        outer: part.outer,
-        then: Then::Leave,
-    }
+    further.text = number;
+    further.at = 0;
+    further.end = end;
+    further.from = 0;
+    further.depth = part.depth;
+    further.closed = false;
+    further.outer = part.outer;
+    further.then = Then::Leave;
 }
 
 /// The scope of an included text is entered.
 fn enter(machine: &mut Machine) -> Result<(), Stop>
     ensures ok { OnOk result (state_of machine.new ≡ record (state_of machine.old) { scopes = entered machine.old.scopes }) }
     ensures fault { IfErr result (λ f. f ≡ NoMemory) }
+    ensures said { machine.new.messages.items ≡ machine.old.messages.items }
 {
     if machine.scopes.enter().is_err() {
         return Err(Stop::NoMemory);
@@ -187,17 +189,20 @@ fn follow(
     machine: &mut Machine,
     part: &Part,
     number: usize,
-) -> Result<Next, Stop>
-    ensures ok { IfOk result (λ next. came next (course_of machine.new readings.now) ≡ included_next part.now (state_of machine.old) (opened number (sources_of readings.now))) }
+    further: &mut Part,
+) -> Result<Rest, Stop>
+    ensures ok { IfOk result (λ next. came (next_of next further.new) (course_of machine.new readings.now) ≡ included_next part.now (state_of machine.old) (opened number (sources_of readings.now))) }
     ensures fault { IfErr result (λ f. f ≡ NoMemory) }
-    ensures light { IfOk result is_light }
+    ensures light { IfOk result (λ next. is_light (next_of next further.new)) }
     ensures taken { OnOk result (machine.new.taken ≡ machine.old.taken) }
+    ensures said { machine.new.messages.items ≡ machine.old.messages.items }
 {
     let Some(length) = readings.length(number) else {
         return Err(Stop::NoMemory);
     };
     enter(machine)?;
-    Ok(Next::Further(included(part, number, length)))
+    lay(part, number, length, further);
+    Ok(Rest::Further)
 }
 
 /// A text that was found is taken in.
@@ -209,15 +214,17 @@ fn take_in(
     file: Source,
     name: Str,
     place: Place,
-) -> Result<Next, Stop>
-    ensures ok { IfOk result (λ next. IsIncludedBy (Some file) name part.now place (course_of machine.old readings.old) (Ok (came next (course_of machine.new readings.new)))) }
+    further: &mut Part,
+) -> Result<Rest, Stop>
+    ensures ok { IfOk result (λ next. IsIncludedBy (Some file) name part.now place (course_of machine.old readings.old) (Ok (came (next_of next further.new) (course_of machine.new readings.new)))) }
     ensures fault { IfErr result (λ f. f ≢ NoMemory → IsIncludedBy (Some file) name part.now place (course_of machine.old readings.old) (Err (halted f (course_of machine.new readings.new)))) }
     ensures outside { IfErr result (λ f. f ≢ TextFault) }
-    ensures light { IfOk result is_light }
+    ensures light { IfOk result (λ next. is_light (next_of next further.new)) }
     ensures taken { OnOk result (machine.new.taken ≡ machine.old.taken) }
+    ensures said { machine.new.messages.items ≡ machine.old.messages.items }
 {
     let number = readings.open(alloc, file, place)?;
-    let next = follow(readings, machine, part, number)?;
+    let next = follow(readings, machine, part, number, further)?;
     Ok(next)
 }
 
@@ -231,19 +238,21 @@ pub fn include<T: Texts>(
     machine: &mut Machine,
     part: &Part,
     at: usize,
-) -> Result<Next, Stop>
+    further: &mut Part,
+) -> Result<Rest, Stop>
     requires whole { AreWhole set.now }
-    ensures ok { IfOk result (λ next. (h : List Text) → T.held texts.old ≡ Some h → IsIncluded (given set.now libraries.now h) at part.now (course_of machine.old readings.old) (Ok (came next (course_of machine.new readings.new)))) }
+    ensures ok { IfOk result (λ next. (h : List Text) → T.held texts.old ≡ Some h → IsIncluded (given set.now libraries.now h) at part.now (course_of machine.old readings.old) (Ok (came (next_of next further.new) (course_of machine.new readings.new)))) }
     ensures fault { IfErr result (λ f. f ≢ NoMemory → f ≢ TextFault → (h : List Text) → T.held texts.old ≡ Some h → IsIncluded (given set.now libraries.now h) at part.now (course_of machine.old readings.old) (Err (halted f (course_of machine.new readings.new)))) }
     ensures cause { HasCause (T.faults texts.old) (T.faults texts.new) (IsErrOf result TextFault) }
     ensures held { T.held texts.new ≡ T.held texts.old }
-    ensures more { IfOk result (λ next. keeps_measure next machine.old.taken machine.new.taken 2) }
+    ensures more { IfOk result (λ next. keeps_measure (next_of next further.new) machine.old.taken machine.new.taken 2) }
     ensures within { OnOk result (machine.new.taken ≤ 16777216) }
+    ensures said { machine.new.messages.items ≡ machine.old.messages.items }
 {
     let (name, place) = ask_in(alloc, set, readings, machine, part, at)?;
     match find(alloc, libraries, texts, name.bytes())? {
         Some(file) => {
-            let next = take_in(alloc, readings, machine, part, file, name, place)?;
+            let next = take_in(alloc, readings, machine, part, file, name, place, further)?;
             Ok(next)
         }
         None => Err(Stop::Absent { name, place }),

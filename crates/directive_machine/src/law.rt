@@ -7,6 +7,7 @@ ghost use Rattle.directive_machine.specs.Expansions.{IsExpansion};
 ghost use Rattle.directive_machine.specs.Loops.{Decides, EndsAtZero, GoesRound, EndsAtBreak, TurnsOn, TurnsEnd, TurnsPast, TurnsBreak};
 ghost use Rattle.directive_machine.specs.Switches.{CaseHolds, CasePasses, FallsOn, FallsOut, BreaksSwitch, BreaksIf, BreaksSide, BreaksRun};
 ghost use Rattle.directive_machine.specs.Meanings.{BindsValue, BindsBlock, HoldsBlock, PassesOn, Calls, LeavesScope, Tells, TellsTooMuch, Errs, Includes, Misses};
+ghost use Rattle.directive_machine.specs.Fronts.{SaysOn};
 ghost use Rattle.directive_machine.specs.Substitutes.{SubstitutesValue, SubstitutesBlock};
 
 use text_structure::one_end;
@@ -108,4 +109,10 @@ pub fn message_laws()
 pub fn include_laws()
     ensures text { Includes }
     ensures absent { Misses }
+{}
+
+/// What was said before a part stands first in what is said once it is over, or where it stops.
+#[tactic(auto, using(crate::proofs::SaidFirst::says_on))]
+pub fn front_law()
+    ensures { SaysOn }
 {}

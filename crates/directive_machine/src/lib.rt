@@ -27,8 +27,8 @@ pub use expansion::expand;
 pub use flat::{Flat, Source};
 pub use folder_texts::FolderTexts;
 pub use law::{
-    break_laws, call_laws, declare_laws, for_laws, if_law, include_laws, message_laws, name_laws,
-    one_expansion, one_outcome, switch_laws, while_laws,
+    break_laws, call_laws, declare_laws, for_laws, front_law, if_law, include_laws, message_laws,
+    name_laws, one_expansion, one_outcome, switch_laws, while_laws,
 };
 pub use mem_texts::MemTexts;
 pub use stop::Stop;

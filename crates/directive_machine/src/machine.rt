@@ -1,6 +1,6 @@
 // What an expansion carries along, and its smallest steps.
 ghost use Rattle.std.specs.Prelude.{◌≡◌, ◌≢◌, ◌<◌, ◌≤◌, ◌+◌, ◌^◌, ℕ, List, [], ◌∷◌, ◌++◌, length, drop, Ok, Err, IfOk, IfErr, OnOk, slice_get};
-ghost use Rattle.directive_machine.specs.State.{counted, deeper, matched, passed, asked, asked_by, named, named_by, handed, is_aside, is_evaluated, stopped, restored};
+ghost use Rattle.directive_machine.specs.State.{counted, deeper, matched, passed, asked, asked_by, named, named_by, handed, is_aside, is_evaluated, stopped, restored, is_free, given_out};
 ghost use Rattle.scene_expr.specs.Heads.{place_at};
 ghost use Rattle.directive_machine.specs.Carried.{state_of};
 ghost use Rattle.directive_machine.specs.declared.stop.Stop.TheVariants.{NoMemory, TextFault};
@@ -10,6 +10,7 @@ use crate::stop::Stop;
 use scene_expr::place_at;
 use scene_lexer::{Place, Token};
 use scope_tables::Names;
+use std::alloc::AllocError;
 use text_structure::{Mark, Written, sign_at};
 
 /// An expansion takes at most so many tokens.
@@ -112,6 +113,7 @@ impl Machine {
         ensures fault { IfErr result (λ f. counted source.now at (state_of self.old) ≡ Err (stopped f (state_of self.new))) }
         ensures more { OnOk result (self.new.taken ≡ self.old.taken + 1) }
         ensures within { OnOk result (self.new.taken ≤ 16777216) }
+        ensures said { self.new.messages.items ≡ self.old.messages.items }
     {
         if self.taken < MOST_TAKEN {
             self.taken += 1;
@@ -139,6 +141,7 @@ impl Machine {
         ensures fault { IfErr result (λ f. passed code source.now at end (state_of self.old) ≡ Err (stopped f (state_of self.new))) }
         ensures more { OnOk result (self.new.taken ≡ self.old.taken + 1) }
         ensures within { OnOk result (self.new.taken ≤ 16777216) }
+        ensures said { self.new.messages.items ≡ self.old.messages.items }
     {
         if at >= end {
             return Err(wrong(4, source, at));
@@ -157,6 +160,7 @@ impl Machine {
         ensures fault { IfErr result (λ f. asked source.now at end (state_of self.old) ≡ Err (stopped f (state_of self.new))) }
         ensures more { OnOk result (self.new.taken ≡ self.old.taken + 1) }
         ensures within { OnOk result (self.new.taken ≤ 16777216) }
+        ensures said { self.new.messages.items ≡ self.old.messages.items }
     {
         if at >= end {
             return Err(wrong(4, source, at));
@@ -178,6 +182,7 @@ impl Machine {
         ensures fault { IfErr result (λ f. named source.now at end (state_of self.old) ≡ Err (stopped f (state_of self.new))) }
         ensures more { OnOk result (self.new.taken ≡ self.old.taken + 1) }
         ensures within { OnOk result (self.new.taken ≤ 16777216) }
+        ensures said { self.new.messages.items ≡ self.old.messages.items }
     {
         match self.ask(source, at, end)? {
             Some(name) => Ok(name),
@@ -192,19 +197,23 @@ impl Machine {
         self.out.as_slice().len()
     }
 
-    /// Hands out a token.
-    pub fn give(&mut self, part: &Part, token: Token) -> Result<(), Stop>
-        ensures ok { OnOk result (handed part.now (token ∷ []) token.place (state_of self.old) ≡ Ok (state_of self.new)) }
-        ensures fault { IfErr result (λ f. f ≢ NoMemory → handed part.now (token ∷ []) token.place (state_of self.old) ≡ Err (stopped f (state_of self.new))) }
-        ensures taken { OnOk result (self.new.taken ≡ self.old.taken) }
+    /// Whether a part may hand out one more token.
+    #[inline(always)]
+    pub fn is_free(&self, part: &Part) -> bool
+        ensures { result ≡ is_free part.now (state_of self.now) }
     {
-        let place = token.place;
-        if !is_aside(part) && self.out.len() >= MOST_HANDED {
-            return Err(Stop::Limit { which: 2, place });
-        }
-        if self.out.push(token).is_err() {
-            return Err(Stop::NoMemory);
-        }
+        is_aside(part) || self.out.len() < MOST_HANDED
+    }
+
+    /// Puts a token behind those that were handed out.
+    #[inline(always)]
+    pub fn put(&mut self, token: Token) -> Result<(), AllocError>
+        ensures state { OnOk result (state_of self.new ≡ given_out (token ∷ []) (state_of self.old)) }
+        ensures taken { self.new.taken ≡ self.old.taken }
+        ensures said { self.new.messages.items ≡ self.old.messages.items }
+    {
+        self.out.reserve(1)?;
+        self.out.push_reserved(token);
         Ok(())
     }
 
@@ -213,6 +222,7 @@ impl Machine {
         ensures ok { OnOk result (handed part.now tokens.items place (state_of self.old) ≡ Ok (state_of self.new)) }
         ensures fault { IfErr result (λ f. f ≢ NoMemory → handed part.now tokens.items place (state_of self.old) ≡ Err (stopped f (state_of self.new))) }
         ensures taken { OnOk result (self.new.taken ≡ self.old.taken) }
+        ensures said { self.new.messages.items ≡ self.old.messages.items }
     {
         if !is_aside(part) && self.out.len().saturating_add(tokens.len()) > MOST_HANDED {
             return Err(Stop::Limit { which: 2, place });

@@ -1,6 +1,7 @@
 // What is made of the value of a part, and of a part that isn't evaluated.
-ghost use Rattle.std.specs.Prelude.{true, ◌≡◌, ◌≢◌, ◌<◌, ◌≤◌, ◌+◌, None, Ok, Err, IfOk, IfErr, OnOk, drop};
+ghost use Rattle.std.specs.Prelude.{true, ◌≡◌, ◌≢◌, ◌<◌, ◌≤◌, ◌+◌, None, Ok, Err, IfOk, IfErr, OnOk, OnErr, drop};
 ghost use Rattle.scene_expr.specs.Values.{AreWhole};
+ghost use Rattle.directive_machine.specs.Moves.{next_of};
 ghost use Rattle.directive_machine.specs.State.{State, stopped, settled};
 ghost use Rattle.directive_machine.specs.Values.{IsWhole, IsEvaluated, stop_of, closed, given};
 ghost use Rattle.directive_machine.specs.Nexts.{float};
@@ -13,7 +14,7 @@ ghost use Rattle.directive_machine.specs.declared.stop.Stop.TheVariants.{NoMemor
 use crate::declared_blocks::behind;
 use crate::declares::bind_in;
 use crate::machine::{Machine, wrong};
-use crate::part::{Choice, Circle, Next, Part, Span, Then, Turns};
+use crate::part::{Choice, Circle, Part, Rest, Span, Then, Turns};
 use crate::settle::{
     decided, goes_on, make_by, make_case, make_from, make_high, make_low, make_to, next_case,
     tested,
@@ -71,6 +72,7 @@ impl Machine {
         ensures value { IfOk result (λ found. IsEvaluated set.now from (state_of self.old) (Ok (record { value = found.value; first = found.first; state = state_of self.new }))) }
         ensures fault { IfErr result (λ f. f ≢ NoMemory → IsEvaluated set.now from (state_of self.old) (Err (stopped f (state_of self.new)))) }
         ensures taken { OnOk result (self.new.taken ≡ self.old.taken) }
+        ensures said { self.new.messages.items ≡ self.old.messages.items }
     {
         let list = behind(self.out.as_slice(), from);
         let first = place_at(list, 0);
@@ -119,16 +121,18 @@ fn make_decision(
     otherwise: Span,
     value: Value,
     first: Place,
-) -> Result<Next, Stop>
+    further: &mut Part,
+) -> Result<Rest, Stop>
     requires taken { machine.old.taken ≤ 16777216 }
-    ensures ok { IfOk result (λ next. made source.now None part.now (Then.Decide held otherwise) (given value first (state_of machine.old)) ≡ Ok (settled next (state_of machine.new))) }
+    ensures ok { IfOk result (λ next. made source.now None part.now (Then.Decide held otherwise) (given value first (state_of machine.old)) ≡ Ok (settled (next_of next further.new) (state_of machine.new))) }
     ensures fault { IfErr result (λ f. made source.now None part.now (Then.Decide held otherwise) (given value first (state_of machine.old)) ≡ Err (stopped f (state_of machine.new))) }
-    ensures light { IfOk result is_light }
+    ensures light { IfOk result (λ next. is_light (next_of next further.new)) }
     ensures more { OnOk result (machine.old.taken ≤ machine.new.taken) }
     ensures within { OnOk result (machine.new.taken ≤ 16777216) }
+    ensures said { machine.new.messages.items ≡ machine.old.messages.items }
 {
     let x = float(value, first)?;
-    Ok(decided(part, held, otherwise, x))
+    Ok(decided(part, held, otherwise, x, further))
 }
 
 /// The condition of a `#while`.
@@ -136,19 +140,21 @@ fn make_test(
     source: &Written,
     machine: &mut Machine,
     part: &Part,
-    circle: Circle,
+    circle: &Circle,
     value: Value,
     first: Place,
-) -> Result<Next, Stop>
+    further: &mut Part,
+) -> Result<Rest, Stop>
     requires taken { machine.old.taken ≤ 16777216 }
-    ensures ok { IfOk result (λ next. made source.now None part.now (Then.Test circle) (given value first (state_of machine.old)) ≡ Ok (settled next (state_of machine.new))) }
-    ensures fault { IfErr result (λ f. made source.now None part.now (Then.Test circle) (given value first (state_of machine.old)) ≡ Err (stopped f (state_of machine.new))) }
-    ensures light { IfOk result is_light }
+    ensures ok { IfOk result (λ next. made source.now None part.now (Then.Test circle.now) (given value first (state_of machine.old)) ≡ Ok (settled (next_of next further.new) (state_of machine.new))) }
+    ensures fault { IfErr result (λ f. made source.now None part.now (Then.Test circle.now) (given value first (state_of machine.old)) ≡ Err (stopped f (state_of machine.new))) }
+    ensures light { IfOk result (λ next. is_light (next_of next further.new)) }
     ensures more { OnOk result (machine.old.taken ≤ machine.new.taken) }
     ensures within { OnOk result (machine.new.taken ≤ 16777216) }
+    ensures said { machine.new.messages.items ≡ machine.old.messages.items }
 {
     let x = float(value, first)?;
-    Ok(tested(part, circle, x))
+    Ok(tested(part, circle, x, further))
 }
 
 /// The value of a `#switch`.
@@ -159,16 +165,18 @@ fn make_choice(
     first_case: usize,
     value: Value,
     first: Place,
-) -> Result<Next, Stop>
+    further: &mut Part,
+) -> Result<Rest, Stop>
     requires taken { machine.old.taken ≤ 16777216 }
-    ensures ok { IfOk result (λ next. made source.now None part.now (Then.Choose first_case) (given value first (state_of machine.old)) ≡ Ok (settled next (state_of machine.new))) }
+    ensures ok { IfOk result (λ next. made source.now None part.now (Then.Choose first_case) (given value first (state_of machine.old)) ≡ Ok (settled (next_of next further.new) (state_of machine.new))) }
     ensures fault { IfErr result (λ f. made source.now None part.now (Then.Choose first_case) (given value first (state_of machine.old)) ≡ Err (stopped f (state_of machine.new))) }
-    ensures light { IfOk result is_light }
+    ensures light { IfOk result (λ next. is_light (next_of next further.new)) }
     ensures more { OnOk result (machine.old.taken ≤ machine.new.taken) }
     ensures within { OnOk result (machine.new.taken ≤ 16777216) }
+    ensures said { machine.new.messages.items ≡ machine.old.messages.items }
 {
     let x = float(value, first)?;
-    next_case(source, machine, part, x, None, first_case)
+    next_case(source, machine, part, x, None, first_case, further)
 }
 
 /// The value of a `#case`.
@@ -176,19 +184,21 @@ fn make_asked_case(
     source: &Written,
     machine: &mut Machine,
     part: &Part,
-    choice: Choice,
+    choice: &Choice,
     value: Value,
     first: Place,
-) -> Result<Next, Stop>
+    further: &mut Part,
+) -> Result<Rest, Stop>
     requires taken { machine.old.taken ≤ 16777216 }
-    ensures ok { IfOk result (λ next. made source.now None part.now (Then.Case choice) (given value first (state_of machine.old)) ≡ Ok (settled next (state_of machine.new))) }
-    ensures fault { IfErr result (λ f. made source.now None part.now (Then.Case choice) (given value first (state_of machine.old)) ≡ Err (stopped f (state_of machine.new))) }
-    ensures light { IfOk result is_light }
+    ensures ok { IfOk result (λ next. made source.now None part.now (Then.Case choice.now) (given value first (state_of machine.old)) ≡ Ok (settled (next_of next further.new) (state_of machine.new))) }
+    ensures fault { IfErr result (λ f. made source.now None part.now (Then.Case choice.now) (given value first (state_of machine.old)) ≡ Err (stopped f (state_of machine.new))) }
+    ensures light { IfOk result (λ next. is_light (next_of next further.new)) }
     ensures more { OnOk result (machine.old.taken ≤ machine.new.taken) }
     ensures within { OnOk result (machine.new.taken ≤ 16777216) }
+    ensures said { machine.new.messages.items ≡ machine.old.messages.items }
 {
     let x = float(value, first)?;
-    make_case(source, machine, part, choice, x)
+    make_case(source, machine, part, choice, x, further)
 }
 
 /// The first number of a `#range`.
@@ -196,19 +206,21 @@ fn make_asked_low(
     source: &Written,
     machine: &mut Machine,
     part: &Part,
-    choice: Choice,
+    choice: &Choice,
     value: Value,
     first: Place,
-) -> Result<Next, Stop>
+    further: &mut Part,
+) -> Result<Rest, Stop>
     requires taken { machine.old.taken ≤ 16777216 }
-    ensures ok { IfOk result (λ next. made source.now None part.now (Then.Low choice) (given value first (state_of machine.old)) ≡ Ok (settled next (state_of machine.new))) }
-    ensures fault { IfErr result (λ f. made source.now None part.now (Then.Low choice) (given value first (state_of machine.old)) ≡ Err (stopped f (state_of machine.new))) }
-    ensures light { IfOk result is_light }
+    ensures ok { IfOk result (λ next. made source.now None part.now (Then.Low choice.now) (given value first (state_of machine.old)) ≡ Ok (settled (next_of next further.new) (state_of machine.new))) }
+    ensures fault { IfErr result (λ f. made source.now None part.now (Then.Low choice.now) (given value first (state_of machine.old)) ≡ Err (stopped f (state_of machine.new))) }
+    ensures light { IfOk result (λ next. is_light (next_of next further.new)) }
     ensures more { OnOk result (machine.old.taken ≤ machine.new.taken) }
     ensures within { OnOk result (machine.new.taken ≤ 16777216) }
+    ensures said { machine.new.messages.items ≡ machine.old.messages.items }
 {
     let x = float(value, first)?;
-    make_low(source, machine, part, choice, x)
+    make_low(source, machine, part, choice, x, further)
 }
 
 /// The second number of a `#range`.
@@ -216,20 +228,22 @@ fn make_asked_high(
     source: &Written,
     machine: &mut Machine,
     part: &Part,
-    choice: Choice,
+    choice: &Choice,
     low: Fix,
     value: Value,
     first: Place,
-) -> Result<Next, Stop>
+    further: &mut Part,
+) -> Result<Rest, Stop>
     requires taken { machine.old.taken ≤ 16777216 }
-    ensures ok { IfOk result (λ next. made source.now None part.now (Then.High choice low) (given value first (state_of machine.old)) ≡ Ok (settled next (state_of machine.new))) }
-    ensures fault { IfErr result (λ f. made source.now None part.now (Then.High choice low) (given value first (state_of machine.old)) ≡ Err (stopped f (state_of machine.new))) }
-    ensures light { IfOk result is_light }
+    ensures ok { IfOk result (λ next. made source.now None part.now (Then.High choice.now low) (given value first (state_of machine.old)) ≡ Ok (settled (next_of next further.new) (state_of machine.new))) }
+    ensures fault { IfErr result (λ f. made source.now None part.now (Then.High choice.now low) (given value first (state_of machine.old)) ≡ Err (stopped f (state_of machine.new))) }
+    ensures light { IfOk result (λ next. is_light (next_of next further.new)) }
     ensures more { OnOk result (machine.old.taken ≤ machine.new.taken) }
     ensures within { OnOk result (machine.new.taken ≤ 16777216) }
+    ensures said { machine.new.messages.items ≡ machine.old.messages.items }
 {
     let x = float(value, first)?;
-    make_high(source, machine, part, choice, low, x)
+    make_high(source, machine, part, choice, low, x, further)
 }
 
 /// The first number of a `#for`.
@@ -237,19 +251,21 @@ fn make_turns_from(
     source: &Written,
     machine: &mut Machine,
     part: &Part,
-    turns: Turns,
+    turns: &Turns,
     value: Value,
     first: Place,
-) -> Result<Next, Stop>
+    further: &mut Part,
+) -> Result<Rest, Stop>
     requires taken { machine.old.taken ≤ 16777216 }
-    ensures ok { IfOk result (λ next. made source.now None part.now (Then.From turns) (given value first (state_of machine.old)) ≡ Ok (settled next (state_of machine.new))) }
-    ensures fault { IfErr result (λ f. made source.now None part.now (Then.From turns) (given value first (state_of machine.old)) ≡ Err (stopped f (state_of machine.new))) }
-    ensures light { IfOk result is_light }
+    ensures ok { IfOk result (λ next. made source.now None part.now (Then.From turns.now) (given value first (state_of machine.old)) ≡ Ok (settled (next_of next further.new) (state_of machine.new))) }
+    ensures fault { IfErr result (λ f. made source.now None part.now (Then.From turns.now) (given value first (state_of machine.old)) ≡ Err (stopped f (state_of machine.new))) }
+    ensures light { IfOk result (λ next. is_light (next_of next further.new)) }
     ensures more { OnOk result (machine.old.taken ≤ machine.new.taken) }
     ensures within { OnOk result (machine.new.taken ≤ 16777216) }
+    ensures said { machine.new.messages.items ≡ machine.old.messages.items }
 {
     let x = float(value, first)?;
-    make_from(source, machine, part, turns, x)
+    make_from(source, machine, part, turns, x, further)
 }
 
 /// The last number of a `#for`.
@@ -257,20 +273,22 @@ fn make_turns_to(
     source: &Written,
     machine: &mut Machine,
     part: &Part,
-    turns: Turns,
+    turns: &Turns,
     start: Fix,
     value: Value,
     first: Place,
-) -> Result<Next, Stop>
+    further: &mut Part,
+) -> Result<Rest, Stop>
     requires taken { machine.old.taken ≤ 16777216 }
-    ensures ok { IfOk result (λ next. made source.now None part.now (Then.To turns start) (given value first (state_of machine.old)) ≡ Ok (settled next (state_of machine.new))) }
-    ensures fault { IfErr result (λ f. f ≢ NoMemory → made source.now None part.now (Then.To turns start) (given value first (state_of machine.old)) ≡ Err (stopped f (state_of machine.new))) }
-    ensures light { IfOk result is_light }
+    ensures ok { IfOk result (λ next. made source.now None part.now (Then.To turns.now start) (given value first (state_of machine.old)) ≡ Ok (settled (next_of next further.new) (state_of machine.new))) }
+    ensures fault { IfErr result (λ f. f ≢ NoMemory → made source.now None part.now (Then.To turns.now start) (given value first (state_of machine.old)) ≡ Err (stopped f (state_of machine.new))) }
+    ensures light { IfOk result (λ next. is_light (next_of next further.new)) }
     ensures more { OnOk result (machine.old.taken ≤ machine.new.taken) }
     ensures within { OnOk result (machine.new.taken ≤ 16777216) }
+    ensures said { machine.new.messages.items ≡ machine.old.messages.items }
 {
     let x = float(value, first)?;
-    make_to(source, machine, part, turns, start, x)
+    make_to(source, machine, part, turns, start, x, further)
 }
 
 /// The step of a `#for`.
@@ -278,21 +296,23 @@ fn make_turns_by(
     source: &Written,
     machine: &mut Machine,
     part: &Part,
-    turns: Turns,
+    turns: &Turns,
     start: Fix,
     last: Fix,
     value: Value,
     first: Place,
-) -> Result<Next, Stop>
+    further: &mut Part,
+) -> Result<Rest, Stop>
     requires taken { machine.old.taken ≤ 16777216 }
-    ensures ok { IfOk result (λ next. made source.now None part.now (Then.By turns start last) (given value first (state_of machine.old)) ≡ Ok (settled next (state_of machine.new))) }
-    ensures fault { IfErr result (λ f. f ≢ NoMemory → made source.now None part.now (Then.By turns start last) (given value first (state_of machine.old)) ≡ Err (stopped f (state_of machine.new))) }
-    ensures light { IfOk result is_light }
+    ensures ok { IfOk result (λ next. made source.now None part.now (Then.By turns.now start last) (given value first (state_of machine.old)) ≡ Ok (settled (next_of next further.new) (state_of machine.new))) }
+    ensures fault { IfErr result (λ f. f ≢ NoMemory → made source.now None part.now (Then.By turns.now start last) (given value first (state_of machine.old)) ≡ Err (stopped f (state_of machine.new))) }
+    ensures light { IfOk result (λ next. is_light (next_of next further.new)) }
     ensures more { OnOk result (machine.old.taken ≤ machine.new.taken) }
     ensures within { OnOk result (machine.new.taken ≤ 16777216) }
+    ensures said { machine.new.messages.items ≡ machine.old.messages.items }
 {
     let x = float(value, first)?;
-    make_by(source, machine, part, turns, start, last, x)
+    make_by(source, machine, part, turns, start, last, x, further)
 }
 
 /// What a message or an `#error` says.
@@ -302,13 +322,15 @@ fn say(
     error: bool,
     at: usize,
     text: Str,
-) -> Result<Next, Stop>
+    further: &mut Part,
+) -> Result<Rest, Stop>
     requires taken { machine.old.taken ≤ 16777216 }
-    ensures ok { IfOk result (λ next. said source.now at error text (state_of machine.old) ≡ Ok (settled next (state_of machine.new))) }
+    ensures ok { IfOk result (λ next. said source.now at error text (state_of machine.old) ≡ Ok (settled (next_of next further.new) (state_of machine.new))) }
     ensures fault { IfErr result (λ f. f ≢ NoMemory → said source.now at error text (state_of machine.old) ≡ Err (stopped f (state_of machine.new))) }
-    ensures light { IfOk result is_light }
+    ensures light { IfOk result (λ next. is_light (next_of next further.new)) }
     ensures more { OnOk result (machine.old.taken ≤ machine.new.taken) }
     ensures within { OnOk result (machine.new.taken ≤ 16777216) }
+    ensures said { OnErr result (machine.new.messages.items ≡ machine.old.messages.items) }
 {
     if error {
         return Err(Stop::UserError {
@@ -325,7 +347,7 @@ fn say(
     if machine.messages.extend_from_slice(text.bytes()).is_err() {
         return Err(Stop::NoMemory);
     }
-    Ok(Next::Done(false))
+    Ok(Rest::Done(false))
 }
 
 /// The text of a message.
@@ -337,16 +359,18 @@ fn make_said(
     at: usize,
     value: Value,
     first: Place,
-) -> Result<Next, Stop>
+    further: &mut Part,
+) -> Result<Rest, Stop>
     requires taken { machine.old.taken ≤ 16777216 }
-    ensures ok { IfOk result (λ next. made source.now None part.now (Then.Say error at) (given value first (state_of machine.old)) ≡ Ok (settled next (state_of machine.new))) }
+    ensures ok { IfOk result (λ next. made source.now None part.now (Then.Say error at) (given value first (state_of machine.old)) ≡ Ok (settled (next_of next further.new) (state_of machine.new))) }
     ensures fault { IfErr result (λ f. f ≢ NoMemory → made source.now None part.now (Then.Say error at) (given value first (state_of machine.old)) ≡ Err (stopped f (state_of machine.new))) }
-    ensures light { IfOk result is_light }
+    ensures light { IfOk result (λ next. is_light (next_of next further.new)) }
     ensures more { OnOk result (machine.old.taken ≤ machine.new.taken) }
     ensures within { OnOk result (machine.new.taken ≤ 16777216) }
+    ensures said { OnErr result (machine.new.messages.items ≡ machine.old.messages.items) }
 {
     let text = text_of(value, first)?;
-    say(source, machine, error, at, text)
+    say(source, machine, error, at, text, further)
 }
 
 /// A right side that is an expression.
@@ -358,16 +382,18 @@ pub fn make_bound(
     local: bool,
     value: Value,
     first: Place,
-) -> Result<Next, Stop>
+    further: &mut Part,
+) -> Result<Rest, Stop>
     requires taken { machine.old.taken ≤ 16777216 }
-    ensures ok { IfOk result (λ next. made source.now None part.now (Then.Bind name local) (given value first (state_of machine.old)) ≡ Ok (settled next (state_of machine.new))) }
+    ensures ok { IfOk result (λ next. made source.now None part.now (Then.Bind name local) (given value first (state_of machine.old)) ≡ Ok (settled (next_of next further.new) (state_of machine.new))) }
     ensures fault { IfErr result (λ f. f ≢ NoMemory → made source.now None part.now (Then.Bind name local) (given value first (state_of machine.old)) ≡ Err (stopped f (state_of machine.new))) }
-    ensures light { IfOk result is_light }
+    ensures light { IfOk result (λ next. is_light (next_of next further.new)) }
     ensures more { OnOk result (machine.old.taken ≤ machine.new.taken) }
     ensures within { OnOk result (machine.new.taken ≤ 16777216) }
+    ensures said { machine.new.messages.items ≡ machine.old.messages.items }
 {
     bind_in(machine, local, name, Binding::Value(value))?;
-    Ok(Next::Done(false))
+    Ok(Rest::Done(false))
 }
 
 /// What a value makes that doesn't bind an argument.
@@ -377,44 +403,52 @@ pub fn make_plain(
     part: &Part,
     value: Value,
     first: Place,
-) -> Result<Next, Stop>
+    further: &mut Part,
+) -> Result<Rest, Stop>
     requires plain { is_plain part.now.then ≡ true }
     requires taken { machine.old.taken ≤ 16777216 }
-    ensures ok { IfOk result (λ next. made source.now None part.now part.now.then (given value first (state_of machine.old)) ≡ Ok (settled next (state_of machine.new))) }
+    ensures ok { IfOk result (λ next. made source.now None part.now part.now.then (given value first (state_of machine.old)) ≡ Ok (settled (next_of next further.new) (state_of machine.new))) }
     ensures fault { IfErr result (λ f. f ≢ NoMemory → made source.now None part.now part.now.then (given value first (state_of machine.old)) ≡ Err (stopped f (state_of machine.new))) }
-    ensures light { IfOk result is_light }
+    ensures light { IfOk result (λ next. is_light (next_of next further.new)) }
     ensures more { OnOk result (machine.old.taken ≤ machine.new.taken) }
     ensures within { OnOk result (machine.new.taken ≤ 16777216) }
+    ensures said { OnErr result (machine.new.messages.items ≡ machine.old.messages.items) }
 {
-    match part.then {
-        Then::Bind { name, local } => make_bound(source, machine, part, name, local, value, first),
+    match &part.then {
+        Then::Bind { name, local } => make_bound(
+            source, machine, part, *name, *local, value, first, further,
+        ),
         Then::Decide { held, otherwise } => make_decision(
-            source, machine, part, held, otherwise, value, first,
+            source, machine, part, *held, *otherwise, value, first, further,
         ),
-        Then::Test(circle) => make_test(source, machine, part, circle, value, first),
-        Then::Choose(case) => make_choice(source, machine, part, case, value, first),
-        Then::Case(choice) => make_asked_case(source, machine, part, choice, value, first),
-        Then::Low(choice) => make_asked_low(source, machine, part, choice, value, first),
+        Then::Test(circle) => make_test(source, machine, part, circle, value, first, further),
+        Then::Choose(case) => make_choice(source, machine, part, *case, value, first, further),
+        Then::Case(choice) => make_asked_case(source, machine, part, choice, value, first, further),
+        Then::Low(choice) => make_asked_low(source, machine, part, choice, value, first, further),
         Then::High(choice, low) => make_asked_high(
-            source, machine, part, choice, low, value, first,
+            source, machine, part, choice, *low, value, first, further,
         ),
-        Then::From(turns) => make_turns_from(source, machine, part, turns, value, first),
-        Then::To(turns, start) => make_turns_to(source, machine, part, turns, start, value, first),
+        Then::From(turns) => make_turns_from(source, machine, part, turns, value, first, further),
+        Then::To(turns, start) => make_turns_to(
+            source, machine, part, turns, *start, value, first, further,
+        ),
         Then::By(turns, start, last) => make_turns_by(
-            source, machine, part, turns, start, last, value, first,
+            source, machine, part, turns, *start, *last, value, first, further,
         ),
-        Then::Say { error, at } => make_said(source, machine, part, error, at, value, first),
-        Then::Plain => Ok(Next::Done(false)),
-        Then::Leave => Ok(Next::Done(false)),
-        Then::Hold { .. } => Ok(Next::Done(false)),
-        Then::Again(_) => Ok(Next::Done(false)),
-        Then::Fall(_) => Ok(Next::Done(false)),
-        Then::Turn(_, _, _, _) => Ok(Next::Done(false)),
-        Then::Pass(_) => Ok(Next::Done(false)),
-        Then::Give(_) => Ok(Next::Done(false)),
-        Then::Refer(_, _) => Ok(Next::Done(false)),
-        Then::Enter(_) => Ok(Next::Done(false)),
-        Then::Read(_) => Ok(Next::Done(false)),
+        Then::Say { error, at } => make_said(
+            source, machine, part, *error, *at, value, first, further,
+        ),
+        Then::Plain => Ok(Rest::Done(false)),
+        Then::Leave => Ok(Rest::Done(false)),
+        Then::Hold { .. } => Ok(Rest::Done(false)),
+        Then::Again(_) => Ok(Rest::Done(false)),
+        Then::Fall(_) => Ok(Rest::Done(false)),
+        Then::Turn(_, _, _, _) => Ok(Rest::Done(false)),
+        Then::Pass(_) => Ok(Rest::Done(false)),
+        Then::Give(_) => Ok(Rest::Done(false)),
+        Then::Refer(_, _) => Ok(Rest::Done(false)),
+        Then::Enter(_) => Ok(Rest::Done(false)),
+        Then::Read(_) => Ok(Rest::Done(false)),
     }
 }
 
@@ -424,6 +458,7 @@ pub fn close(source: &Written, machine: &mut Machine, part: &Part) -> Result<(),
     ensures fault { IfErr result (λ f. closed source.now part.now (state_of machine.old) ≡ Err (stopped f (state_of machine.new))) }
     ensures more { OnOk result (machine.new.taken ≡ machine.old.taken + 1) }
     ensures within { OnOk result (machine.new.taken ≤ 16777216) }
+    ensures said { machine.new.messages.items ≡ machine.old.messages.items }
 {
     if !part.closed {
         return Err(wrong(4, source, part.end));
@@ -437,15 +472,17 @@ pub fn turn_again(
     source: &Written,
     machine: &mut Machine,
     part: &Part,
-    circle: Circle,
-) -> Result<Next, Stop>
+    circle: &Circle,
+    further: &mut Part,
+) -> Result<Rest, Stop>
     requires taken { machine.old.taken ≤ 16777216 }
-    ensures ok { IfOk result (λ next. settled_by source.now None part.now (Then.Again circle) (state_of machine.old) ≡ Ok (settled next (state_of machine.new))) }
-    ensures fault { IfErr result (λ f. settled_by source.now None part.now (Then.Again circle) (state_of machine.old) ≡ Err (stopped f (state_of machine.new))) }
-    ensures light { IfOk result is_light }
+    ensures ok { IfOk result (λ next. settled_by source.now None part.now (Then.Again circle.now) (state_of machine.old) ≡ Ok (settled (next_of next further.new) (state_of machine.new))) }
+    ensures fault { IfErr result (λ f. settled_by source.now None part.now (Then.Again circle.now) (state_of machine.old) ≡ Err (stopped f (state_of machine.new))) }
+    ensures light { IfOk result (λ next. is_light (next_of next further.new)) }
     ensures more { OnOk result (machine.old.taken ≤ machine.new.taken) }
     ensures within { OnOk result (machine.new.taken ≤ 16777216) }
     ensures strict { OnOk result (machine.old.taken < machine.new.taken) }
+    ensures said { machine.new.messages.items ≡ machine.old.messages.items }
 {
     machine.pass(b'(', source, circle.sign, circle.body.end)?;
     Ok(goes_on(
@@ -453,6 +490,7 @@ pub fn turn_again(
         part,
         circle.condition,
         circle.closed,
-        Then::Test(circle),
+        Then::Test(*circle),
+        further,
     ))
 }

@@ -120,36 +120,37 @@ pub enum Then {
 #[derive(Clone, Copy, Debug, PartialEq, Eq)]
 pub struct Part {
     pub text: usize,
-    pub depth: u32,
     pub at: usize,
     pub end: usize,
-    /// Its closer stands at its end.
-    pub closed: bool,
     /// How many tokens were handed out before it.
     pub from: usize,
+    pub depth: u32,
+    /// Its closer stands at its end.
+    pub closed: bool,
     /// What it stands in is kept aside from the flat list.
     pub outer: bool,
     pub then: Then,
 }
 
-/// What a token begins.
+/// What a token begins. A part that it opens is written where the caller says, since parts are too long to be handed
+/// from function to function.
 #[derive(Clone, Copy, Debug, PartialEq, Eq)]
-pub enum Action {
+pub enum Lead {
     /// Nothing more: the next token stands here.
     Step(usize),
     /// The end of the innermost switch or loop.
     Break,
-    /// A part is expanded; behind it the next token stands at `behind`.
-    Open { part: Part, behind: usize },
+    /// A part is expanded; behind it the next token stands here.
+    Open(usize),
 }
 
-/// What comes behind an expanded part.
+/// What comes behind an expanded part. A further part is written where the caller says.
 #[derive(Clone, Copy, Debug, PartialEq, Eq)]
-pub enum Next {
+pub enum Rest {
     /// What stands around it, or the end of the innermost switch or loop.
     Done(bool),
     /// A further part.
-    Further(Part),
+    Further,
 }
 
 /// A part that is run, and the place where it stands.

@@ -3,6 +3,7 @@ ghost use Rattle.std.specs.Prelude.{◌≡◌, ◌≢◌, ◌<◌, ◌≤◌, �
 ghost use Rattle.std.specs.Ordering.{int_eq};
 ghost use Rattle.fix_math.specs.Outcomes.{in_range};
 ghost use Rattle.text_structure.specs.Turns.{directive_at};
+ghost use Rattle.directive_machine.specs.Moves.{next_of};
 ghost use Rattle.directive_machine.specs.State.{stopped, settled, restored, on_ok, counted, passed};
 ghost use Rattle.directive_machine.specs.Begins.{chosen};
 ghost use Rattle.directive_machine.specs.Nexts.{done, next_part, goes_on, run_next, decided_next, tested_next, is_true, decided, tested};
@@ -14,42 +15,50 @@ ghost use Rattle.directive_machine.specs.declared.stop.Stop.TheVariants.{NoMemor
 
 use crate::blocks::{chosen, is_closed, is_piece_closed, listed, piece};
 use crate::machine::{Machine, wrong};
-use crate::part::{Choice, Circle, Next, Part, Span, Then, Turns};
+use crate::part::{Choice, Circle, Part, Rest, Span, Then, Turns};
 use crate::stop::Stop;
 use fix_math::{Fix, NumFault, add};
 use scene_expr::{ExprFault, Value, place_at};
 use scope_tables::Binding;
 use text_structure::{Closer, Directive, Written, sign_at};
 
-fn next_part(part: &Part, list: Span, closed: bool, from: usize, then: Then) -> Part
-    ensures { result ≡ next_part part.now list closed from then }
+/// Writes the part down that follows another one.
+fn follow(part: &Part, list: Span, closed: bool, from: usize, then: Then, further: &mut Part)
+    ensures { further.new ≡ next_part part.now list closed from then }
 {
-    Part {
-        text: part.text,
-        depth: part.depth,
-        at: list.at,
-        end: list.end,
-        closed,
-        from,
-        outer: part.outer,
-        then,
-    }
+    further.text = part.text;
+    further.at = list.at;
+    further.end = list.end;
+    further.from = from;
+    further.depth = part.depth;
+    further.closed = closed;
+    further.outer = part.outer;
+    further.then = then;
 }
 
 /// A list that is evaluated follows.
-pub fn goes_on(machine: &Machine, part: &Part, list: Span, closed: bool, then: Then) -> Next
-    ensures value { goes_on part.now list closed then (state_of machine.now) ≡ Ok (settled result (state_of machine.now)) }
-    ensures light { weight then < 2 ^ 66 → is_light result }
+pub fn goes_on(
+    machine: &Machine,
+    part: &Part,
+    list: Span,
+    closed: bool,
+    then: Then,
+    further: &mut Part,
+) -> Rest
+    ensures value { goes_on part.now list closed then (state_of machine.now) ≡ Ok (settled (next_of result further.new) (state_of machine.now)) }
+    ensures light { weight then < 2 ^ 66 → is_light (next_of result further.new) }
 {
-    Next::Further(next_part(part, list, closed, machine.given(), then))
+    follow(part, list, closed, machine.given(), then, further);
+    Rest::Further
 }
 
 /// A body follows.
-fn runs(part: &Part, list: Span, then: Then) -> Next
-    ensures value { result ≡ run_next part.now list then }
-    ensures light { weight then < 2 ^ 66 → is_light result }
+fn runs(part: &Part, list: Span, then: Then, further: &mut Part) -> Rest
+    ensures value { next_of result further.new ≡ run_next part.now list then }
+    ensures light { weight then < 2 ^ 66 → is_light (next_of result further.new) }
 {
-    Next::Further(next_part(part, list, false, 0, then))
+    follow(part, list, false, 0, then, further);
+    Rest::Further
 }
 
 fn is_true(value: Fix) -> bool
@@ -59,22 +68,27 @@ fn is_true(value: Fix) -> bool
 }
 
 /// A condition of an `#if`: one of its bodies follows.
-pub fn decided(part: &Part, held: Span, otherwise: Span, value: Fix) -> Next
-    ensures value { result ≡ decided_next part.now held otherwise value }
-    ensures light { is_light result }
+pub fn decided(part: &Part, held: Span, otherwise: Span, value: Fix, further: &mut Part) -> Rest
+    ensures value { next_of result further.new ≡ decided_next part.now held otherwise value }
+    ensures light { is_light (next_of result further.new) }
 {
-    runs(part, chosen(is_true(value), held, otherwise), Then::Plain)
+    runs(
+        part,
+        chosen(is_true(value), held, otherwise),
+        Then::Plain,
+        further,
+    )
 }
 
 /// A condition of a `#while`: its body follows, or the loop ends.
-pub fn tested(part: &Part, circle: Circle, value: Fix) -> Next
-    ensures value { result ≡ tested_next part.now circle value }
-    ensures light { is_light result }
+pub fn tested(part: &Part, circle: &Circle, value: Fix, further: &mut Part) -> Rest
+    ensures value { next_of result further.new ≡ tested_next part.now circle.now value }
+    ensures light { is_light (next_of result further.new) }
 {
     if is_true(value) {
-        runs(part, circle.body, Then::Again(circle))
+        runs(part, circle.body, Then::Again(*circle), further)
     } else {
-        Next::Done(false)
+        Rest::Done(false)
     }
 }
 
@@ -99,6 +113,7 @@ fn take_case(source: &Written, machine: &mut Machine, at: usize) -> Result<(), S
     ensures fault { IfErr result (λ f. case_taken source.now at (state_of machine.old) ≡ Err (stopped f (state_of machine.new))) }
     ensures more { OnOk result (machine.old.taken < machine.new.taken) }
     ensures within { OnOk result (machine.new.taken ≤ 16777216) }
+    ensures said { machine.new.messages.items ≡ machine.old.messages.items }
 {
     machine.count(source, at)?;
     machine.count(source, at + 1)?;
@@ -114,14 +129,16 @@ fn ask_case(
     value: Fix,
     otherwise: Option<usize>,
     at: usize,
-) -> Result<Next, Stop>
+    further: &mut Part,
+) -> Result<Rest, Stop>
     requires place { at < 2 ^ 33 }
     requires taken { machine.old.taken ≤ 16777216 }
-    ensures ok { IfOk result (λ next. asked_case source.now part.now value otherwise at (state_of machine.old) ≡ Ok (settled next (state_of machine.new))) }
+    ensures ok { IfOk result (λ next. asked_case source.now part.now value otherwise at (state_of machine.old) ≡ Ok (settled (next_of next further.new) (state_of machine.new))) }
     ensures fault { IfErr result (λ f. asked_case source.now part.now value otherwise at (state_of machine.old) ≡ Err (stopped f (state_of machine.new))) }
-    ensures light { IfOk result is_light }
+    ensures light { IfOk result (λ next. is_light (next_of next further.new)) }
     ensures more { OnOk result (machine.old.taken ≤ machine.new.taken) }
     ensures within { OnOk result (machine.new.taken ≤ 16777216) }
+    ensures said { machine.new.messages.items ≡ machine.old.messages.items }
 {
     take_case(source, machine, at)?;
     let choice = choice(source, value, otherwise, at);
@@ -130,7 +147,7 @@ fn ask_case(
         at: at + 3,
         end: choice.close,
     };
-    Ok(goes_on(machine, part, list, closed, Then::Case(choice)))
+    Ok(goes_on(machine, part, list, closed, Then::Case(choice), further))
 }
 
 /// A `#range` is asked.
@@ -141,14 +158,16 @@ fn ask_range(
     value: Fix,
     otherwise: Option<usize>,
     at: usize,
-) -> Result<Next, Stop>
+    further: &mut Part,
+) -> Result<Rest, Stop>
     requires place { at < 2 ^ 33 }
     requires taken { machine.old.taken ≤ 16777216 }
-    ensures ok { IfOk result (λ next. asked_range source.now part.now value otherwise at (state_of machine.old) ≡ Ok (settled next (state_of machine.new))) }
+    ensures ok { IfOk result (λ next. asked_range source.now part.now value otherwise at (state_of machine.old) ≡ Ok (settled (next_of next further.new) (state_of machine.new))) }
     ensures fault { IfErr result (λ f. asked_range source.now part.now value otherwise at (state_of machine.old) ≡ Err (stopped f (state_of machine.new))) }
-    ensures light { IfOk result is_light }
+    ensures light { IfOk result (λ next. is_light (next_of next further.new)) }
     ensures more { OnOk result (machine.old.taken ≤ machine.new.taken) }
     ensures within { OnOk result (machine.new.taken ≤ 16777216) }
+    ensures said { machine.new.messages.items ≡ machine.old.messages.items }
 {
     take_case(source, machine, at)?;
     let choice = choice(source, value, otherwise, at);
@@ -158,28 +177,29 @@ fn ask_range(
         piece(source, at + 3, choice.close),
         is_piece_closed(source, at + 3, choice.close, choice.closed),
         Then::Low(choice),
+        further,
     ))
 }
 
 /// A body of a switch that begins at a place.
-fn fallen(source: &Written, part: &Part, at: usize, parted: bool) -> Next
-    ensures value { result ≡ fallen_next source.now part.now at parted }
-    ensures light { is_light result }
+fn fallen(source: &Written, part: &Part, at: usize, parted: bool, further: &mut Part) -> Rest
+    ensures value { next_of result further.new ≡ fallen_next source.now part.now at parted }
+    ensures light { is_light (next_of result further.new) }
 {
     let list = Span {
         at,
         end: source.end(Closer::Branch, at),
     };
-    runs(part, list, Then::Fall(parted))
+    runs(part, list, Then::Fall(parted), further)
 }
 
-fn no_case(source: &Written, part: &Part, otherwise: Option<usize>) -> Next
-    ensures value { result ≡ no_case_next source.now part.now otherwise }
-    ensures light { is_light result }
+fn no_case(source: &Written, part: &Part, otherwise: Option<usize>, further: &mut Part) -> Rest
+    ensures value { next_of result further.new ≡ no_case_next source.now part.now otherwise }
+    ensures light { is_light (next_of result further.new) }
 {
     match otherwise {
-        Some(body) => fallen(source, part, body, true),
-        None => Next::Done(false),
+        Some(body) => fallen(source, part, body, true, further),
+        None => Rest::Done(false),
     }
 }
 
@@ -191,18 +211,20 @@ fn case_by(
     value: Fix,
     otherwise: Option<usize>,
     at: usize,
-) -> Result<Next, Stop>
+    further: &mut Part,
+) -> Result<Rest, Stop>
     requires taken { machine.old.taken ≤ 16777216 }
-    ensures ok { IfOk result (λ next. case_by (directive_at source.now.marks at) source.now part.now value otherwise at (state_of machine.old) ≡ Ok (settled next (state_of machine.new))) }
+    ensures ok { IfOk result (λ next. case_by (directive_at source.now.marks at) source.now part.now value otherwise at (state_of machine.old) ≡ Ok (settled (next_of next further.new) (state_of machine.new))) }
     ensures fault { IfErr result (λ f. case_by (directive_at source.now.marks at) source.now part.now value otherwise at (state_of machine.old) ≡ Err (stopped f (state_of machine.new))) }
-    ensures light { IfOk result is_light }
+    ensures light { IfOk result (λ next. is_light (next_of next further.new)) }
     ensures more { OnOk result (machine.old.taken ≤ machine.new.taken) }
     ensures within { OnOk result (machine.new.taken ≤ 16777216) }
+    ensures said { machine.new.messages.items ≡ machine.old.messages.items }
 {
     match source.directive(at) {
-        Some(Directive::Case) => ask_case(source, machine, part, value, otherwise, at),
-        Some(Directive::Range) => ask_range(source, machine, part, value, otherwise, at),
-        _ => Ok(no_case(source, part, otherwise)),
+        Some(Directive::Case) => ask_case(source, machine, part, value, otherwise, at, further),
+        Some(Directive::Range) => ask_range(source, machine, part, value, otherwise, at, further),
+        _ => Ok(no_case(source, part, otherwise, further)),
     }
 }
 
@@ -213,17 +235,19 @@ fn behind_else(
     part: &Part,
     value: Fix,
     at: usize,
-) -> Result<Next, Stop>
+    further: &mut Part,
+) -> Result<Rest, Stop>
     requires place { at < 2 ^ 24 }
     requires taken { machine.old.taken ≤ 16777216 }
-    ensures ok { IfOk result (λ next. next_by (Some Directive.Else) source.now part.now value None at (state_of machine.old) ≡ Ok (settled next (state_of machine.new))) }
+    ensures ok { IfOk result (λ next. next_by (Some Directive.Else) source.now part.now value None at (state_of machine.old) ≡ Ok (settled (next_of next further.new) (state_of machine.new))) }
     ensures fault { IfErr result (λ f. next_by (Some Directive.Else) source.now part.now value None at (state_of machine.old) ≡ Err (stopped f (state_of machine.new))) }
-    ensures light { IfOk result is_light }
+    ensures light { IfOk result (λ next. is_light (next_of next further.new)) }
     ensures more { OnOk result (machine.old.taken ≤ machine.new.taken) }
     ensures within { OnOk result (machine.new.taken ≤ 16777216) }
+    ensures said { machine.new.messages.items ≡ machine.old.messages.items }
 {
     let next = source.end(Closer::Branch, at + 2);
-    case_by(source, machine, part, value, Some(at + 2), next)
+    case_by(source, machine, part, value, Some(at + 2), next, further)
 }
 
 /// The case that is asked next.
@@ -234,17 +258,19 @@ pub fn next_case(
     value: Fix,
     otherwise: Option<usize>,
     at: usize,
-) -> Result<Next, Stop>
+    further: &mut Part,
+) -> Result<Rest, Stop>
     requires taken { machine.old.taken ≤ 16777216 }
-    ensures ok { IfOk result (λ next. next_case source.now part.now value otherwise at (state_of machine.old) ≡ Ok (settled next (state_of machine.new))) }
+    ensures ok { IfOk result (λ next. next_case source.now part.now value otherwise at (state_of machine.old) ≡ Ok (settled (next_of next further.new) (state_of machine.new))) }
     ensures fault { IfErr result (λ f. next_case source.now part.now value otherwise at (state_of machine.old) ≡ Err (stopped f (state_of machine.new))) }
-    ensures light { IfOk result is_light }
+    ensures light { IfOk result (λ next. is_light (next_of next further.new)) }
     ensures more { OnOk result (machine.old.taken ≤ machine.new.taken) }
     ensures within { OnOk result (machine.new.taken ≤ 16777216) }
+    ensures said { machine.new.messages.items ≡ machine.old.messages.items }
 {
     match source.directive(at) {
-        Some(Directive::Else) => behind_else(source, machine, part, value, at),
-        _ => case_by(source, machine, part, value, otherwise, at),
+        Some(Directive::Else) => behind_else(source, machine, part, value, at, further),
+        _ => case_by(source, machine, part, value, otherwise, at, further),
     }
 }
 
@@ -253,21 +279,31 @@ fn match_case(
     source: &Written,
     machine: &mut Machine,
     part: &Part,
-    choice: Choice,
+    choice: &Choice,
     held: bool,
-) -> Result<Next, Stop>
+    further: &mut Part,
+) -> Result<Rest, Stop>
     requires taken { machine.old.taken ≤ 16777216 }
-    ensures ok { IfOk result (λ next. matched_case source.now part.now choice held (state_of machine.old) ≡ Ok (settled next (state_of machine.new))) }
-    ensures fault { IfErr result (λ f. matched_case source.now part.now choice held (state_of machine.old) ≡ Err (stopped f (state_of machine.new))) }
-    ensures light { IfOk result is_light }
+    ensures ok { IfOk result (λ next. matched_case source.now part.now choice.now held (state_of machine.old) ≡ Ok (settled (next_of next further.new) (state_of machine.new))) }
+    ensures fault { IfErr result (λ f. matched_case source.now part.now choice.now held (state_of machine.old) ≡ Err (stopped f (state_of machine.new))) }
+    ensures light { IfOk result (λ next. is_light (next_of next further.new)) }
     ensures more { OnOk result (machine.old.taken ≤ machine.new.taken) }
     ensures within { OnOk result (machine.new.taken ≤ 16777216) }
+    ensures said { machine.new.messages.items ≡ machine.old.messages.items }
 {
     if held {
-        Ok(fallen(source, part, choice.body, false))
+        Ok(fallen(source, part, choice.body, false, further))
     } else {
         let next = source.end(Closer::Branch, choice.body);
-        next_case(source, machine, part, choice.value, choice.otherwise, next)
+        next_case(
+            source,
+            machine,
+            part,
+            choice.value,
+            choice.otherwise,
+            next,
+            further,
+        )
     }
 }
 
@@ -276,18 +312,20 @@ pub fn make_case(
     source: &Written,
     machine: &mut Machine,
     part: &Part,
-    choice: Choice,
+    choice: &Choice,
     value: Fix,
-) -> Result<Next, Stop>
+    further: &mut Part,
+) -> Result<Rest, Stop>
     requires taken { machine.old.taken ≤ 16777216 }
-    ensures ok { IfOk result (λ next. matched_case source.now part.now choice (int_eq choice.value value) (state_of machine.old) ≡ Ok (settled next (state_of machine.new))) }
-    ensures fault { IfErr result (λ f. matched_case source.now part.now choice (int_eq choice.value value) (state_of machine.old) ≡ Err (stopped f (state_of machine.new))) }
-    ensures light { IfOk result is_light }
+    ensures ok { IfOk result (λ next. matched_case source.now part.now choice.now (int_eq choice.now.value value) (state_of machine.old) ≡ Ok (settled (next_of next further.new) (state_of machine.new))) }
+    ensures fault { IfErr result (λ f. matched_case source.now part.now choice.now (int_eq choice.now.value value) (state_of machine.old) ≡ Err (stopped f (state_of machine.new))) }
+    ensures light { IfOk result (λ next. is_light (next_of next further.new)) }
     ensures more { OnOk result (machine.old.taken ≤ machine.new.taken) }
     ensures within { OnOk result (machine.new.taken ≤ 16777216) }
+    ensures said { machine.new.messages.items ≡ machine.old.messages.items }
 {
     let held = choice.value.raw() == value.raw();
-    match_case(source, machine, part, choice, held)
+    match_case(source, machine, part, choice, held, further)
 }
 
 /// The first number of a `#range`.
@@ -295,15 +333,17 @@ pub fn make_low(
     source: &Written,
     machine: &mut Machine,
     part: &Part,
-    choice: Choice,
+    choice: &Choice,
     low: Fix,
-) -> Result<Next, Stop>
+    further: &mut Part,
+) -> Result<Rest, Stop>
     requires taken { machine.old.taken ≤ 16777216 }
-    ensures ok { IfOk result (λ next. made_low source.now part.now choice low (state_of machine.old) ≡ Ok (settled next (state_of machine.new))) }
-    ensures fault { IfErr result (λ f. made_low source.now part.now choice low (state_of machine.old) ≡ Err (stopped f (state_of machine.new))) }
-    ensures light { IfOk result is_light }
+    ensures ok { IfOk result (λ next. made_low source.now part.now choice.now low (state_of machine.old) ≡ Ok (settled (next_of next further.new) (state_of machine.new))) }
+    ensures fault { IfErr result (λ f. made_low source.now part.now choice.now low (state_of machine.old) ≡ Err (stopped f (state_of machine.new))) }
+    ensures light { IfOk result (λ next. is_light (next_of next further.new)) }
     ensures more { OnOk result (machine.old.taken ≤ machine.new.taken) }
     ensures within { OnOk result (machine.new.taken ≤ 16777216) }
+    ensures said { machine.new.messages.items ≡ machine.old.messages.items }
 {
     if part.end >= choice.close {
         return Err(wrong(4, source, part.end));
@@ -313,7 +353,8 @@ pub fn make_low(
         part,
         piece(source, part.end + 1, choice.close),
         is_piece_closed(source, part.end + 1, choice.close, choice.closed),
-        Then::High(choice, low),
+        Then::High(*choice, low),
+        further,
     ))
 }
 
@@ -322,23 +363,25 @@ pub fn make_high(
     source: &Written,
     machine: &mut Machine,
     part: &Part,
-    choice: Choice,
+    choice: &Choice,
     low: Fix,
     high: Fix,
-) -> Result<Next, Stop>
+    further: &mut Part,
+) -> Result<Rest, Stop>
     requires taken { machine.old.taken ≤ 16777216 }
-    ensures ok { IfOk result (λ next. made_high source.now part.now choice low high (state_of machine.old) ≡ Ok (settled next (state_of machine.new))) }
-    ensures fault { IfErr result (λ f. made_high source.now part.now choice low high (state_of machine.old) ≡ Err (stopped f (state_of machine.new))) }
-    ensures light { IfOk result is_light }
+    ensures ok { IfOk result (λ next. made_high source.now part.now choice.now low high (state_of machine.old) ≡ Ok (settled (next_of next further.new) (state_of machine.new))) }
+    ensures fault { IfErr result (λ f. made_high source.now part.now choice.now low high (state_of machine.old) ≡ Err (stopped f (state_of machine.new))) }
+    ensures light { IfOk result (λ next. is_light (next_of next further.new)) }
     ensures more { OnOk result (machine.old.taken ≤ machine.new.taken) }
     ensures within { OnOk result (machine.new.taken ≤ 16777216) }
+    ensures said { machine.new.messages.items ≡ machine.old.messages.items }
 {
     if part.end < choice.close {
         return Err(wrong(4, source, part.end));
     }
     let value = choice.value.raw();
     let held = low.raw() <= value && value <= high.raw();
-    match_case(source, machine, part, choice, held)
+    match_case(source, machine, part, choice, held, further)
 }
 
 /// A body that was run through to the next case: the head of that is passed over.
@@ -348,15 +391,17 @@ fn fall_case(
     part: &Part,
     parted: bool,
     at: usize,
-) -> Result<Next, Stop>
+    further: &mut Part,
+) -> Result<Rest, Stop>
     requires place { at < 2 ^ 24 }
     requires taken { machine.old.taken ≤ 16777216 }
-    ensures ok { IfOk result (λ next. fallen_case source.now part.now parted at (state_of machine.old) ≡ Ok (settled next (state_of machine.new))) }
+    ensures ok { IfOk result (λ next. fallen_case source.now part.now parted at (state_of machine.old) ≡ Ok (settled (next_of next further.new) (state_of machine.new))) }
     ensures fault { IfErr result (λ f. fallen_case source.now part.now parted at (state_of machine.old) ≡ Err (stopped f (state_of machine.new))) }
-    ensures light { IfOk result is_light }
+    ensures light { IfOk result (λ next. is_light (next_of next further.new)) }
     ensures more { OnOk result (machine.old.taken ≤ machine.new.taken) }
     ensures within { OnOk result (machine.new.taken ≤ 16777216) }
     ensures strict { OnOk result (machine.old.taken < machine.new.taken) }
+    ensures said { machine.new.messages.items ≡ machine.old.messages.items }
 {
     machine.count(source, at)?;
     machine.count(source, at + 1)?;
@@ -368,19 +413,19 @@ fn fall_case(
         return Err(wrong(4, source, limit));
     }
     let body = listed(source, at + 3, limit).end + 1;
-    Ok(fallen(source, part, body, parted))
+    Ok(fallen(source, part, body, parted, further))
 }
 
 /// The `#else` behind a body that was run through to it.
-fn fall_else(source: &Written, part: &Part, parted: bool, at: usize) -> Next
+fn fall_else(source: &Written, part: &Part, parted: bool, at: usize, further: &mut Part) -> Rest
     requires { at < 2 ^ 24 }
-    ensures value { result ≡ fallen_else_next source.now part.now parted at }
-    ensures lighter { is_lighter result (weight (Then.Fall parted)) }
+    ensures value { next_of result further.new ≡ fallen_else_next source.now part.now parted at }
+    ensures lighter { is_lighter (next_of result further.new) (weight (Then.Fall parted)) }
 {
     if parted {
-        Next::Done(false)
+        Rest::Done(false)
     } else {
-        fallen(source, part, at + 2, true)
+        fallen(source, part, at + 2, true, further)
     }
 }
 
@@ -390,25 +435,28 @@ pub fn fall(
     machine: &mut Machine,
     part: &Part,
     parted: bool,
-) -> Result<Next, Stop>
+    further: &mut Part,
+) -> Result<Rest, Stop>
     requires taken { machine.old.taken ≤ 16777216 }
-    ensures ok { IfOk result (λ next. fallen_by (directive_at source.now.marks part.now.end) source.now part.now parted part.now.end (state_of machine.old) ≡ Ok (settled next (state_of machine.new))) }
+    ensures ok { IfOk result (λ next. fallen_by (directive_at source.now.marks part.now.end) source.now part.now parted part.now.end (state_of machine.old) ≡ Ok (settled (next_of next further.new) (state_of machine.new))) }
     ensures fault { IfErr result (λ f. fallen_by (directive_at source.now.marks part.now.end) source.now part.now parted part.now.end (state_of machine.old) ≡ Err (stopped f (state_of machine.new))) }
-    ensures more { IfOk result (λ next. keeps_measure next machine.old.taken machine.new.taken (weight (Then.Fall parted))) }
+    ensures more { IfOk result (λ next. keeps_measure (next_of next further.new) machine.old.taken machine.new.taken (weight (Then.Fall parted))) }
     ensures within { OnOk result (machine.new.taken ≤ 16777216) }
+    ensures said { machine.new.messages.items ≡ machine.old.messages.items }
 {
     match source.directive(part.end) {
-        Some(Directive::Case) => fall_case(source, machine, part, parted, part.end),
-        Some(Directive::Range) => fall_case(source, machine, part, parted, part.end),
-        Some(Directive::Else) => Ok(fall_else(source, part, parted, part.end)),
-        _ => Ok(Next::Done(false)),
+        Some(Directive::Case) => fall_case(source, machine, part, parted, part.end, further),
+        Some(Directive::Range) => fall_case(source, machine, part, parted, part.end, further),
+        Some(Directive::Else) => Ok(fall_else(source, part, parted, part.end, further)),
+        _ => Ok(Rest::Done(false)),
     }
 }
 
 /// The variable of a `#for` has its number.
-pub fn number(machine: &mut Machine, turns: Turns, number: Fix) -> Result<(), Stop>
-    ensures ok { OnOk result (state_of machine.new ≡ numbered turns number (state_of machine.old)) }
+pub fn number(machine: &mut Machine, turns: &Turns, number: Fix) -> Result<(), Stop>
+    ensures ok { OnOk result (state_of machine.new ≡ numbered turns.now number (state_of machine.old)) }
     ensures fault { IfErr result (λ f. f ≡ NoMemory) }
+    ensures said { machine.new.messages.items ≡ machine.old.messages.items }
 {
     let binding = Binding::Value(Value::Float(number));
     if machine.scopes.bind(turns.name, binding).is_err() {
@@ -431,22 +479,29 @@ fn goes_round(number: Fix, last: Fix, step: Fix) -> bool
 fn try_number(
     machine: &mut Machine,
     part: &Part,
-    turns: Turns,
+    turns: &Turns,
     first: Fix,
     last: Fix,
     step: Fix,
-) -> Result<Next, Stop>
+    further: &mut Part,
+) -> Result<Rest, Stop>
     requires taken { machine.old.taken ≤ 16777216 }
-    ensures ok { IfOk result (λ next. tried part.now turns first last step (state_of machine.old) ≡ Ok (settled next (state_of machine.new))) }
+    ensures ok { IfOk result (λ next. tried part.now turns.now first last step (state_of machine.old) ≡ Ok (settled (next_of next further.new) (state_of machine.new))) }
     ensures fault { IfErr result (λ f. f ≡ NoMemory) }
-    ensures round { IfOk result (λ next. is_turn next first last step) }
+    ensures round { IfOk result (λ next. is_turn (next_of next further.new) first last step) }
     ensures same { OnOk result (machine.new.taken ≡ machine.old.taken) }
+    ensures said { machine.new.messages.items ≡ machine.old.messages.items }
 {
     number(machine, turns, first)?;
     if goes_round(first, last, step) {
-        Ok(runs(part, turns.body, Then::Turn(turns, first, last, step)))
+        Ok(runs(
+            part,
+            turns.body,
+            Then::Turn(*turns, first, last, step),
+            further,
+        ))
     } else {
-        Ok(Next::Done(false))
+        Ok(Rest::Done(false))
     }
 }
 
@@ -454,22 +509,24 @@ fn begin_turns(
     source: &Written,
     machine: &mut Machine,
     part: &Part,
-    turns: Turns,
+    turns: &Turns,
     first: Fix,
     last: Fix,
     step: Fix,
-) -> Result<Next, Stop>
+    further: &mut Part,
+) -> Result<Rest, Stop>
     requires taken { machine.old.taken ≤ 16777216 }
-    ensures ok { IfOk result (λ next. begun_turns source.now part.now turns first last step (state_of machine.old) ≡ Ok (settled next (state_of machine.new))) }
-    ensures fault { IfErr result (λ f. f ≢ NoMemory → begun_turns source.now part.now turns first last step (state_of machine.old) ≡ Err (stopped f (state_of machine.new))) }
-    ensures light { IfOk result is_light }
+    ensures ok { IfOk result (λ next. begun_turns source.now part.now turns.now first last step (state_of machine.old) ≡ Ok (settled (next_of next further.new) (state_of machine.new))) }
+    ensures fault { IfErr result (λ f. f ≢ NoMemory → begun_turns source.now part.now turns.now first last step (state_of machine.old) ≡ Err (stopped f (state_of machine.new))) }
+    ensures light { IfOk result (λ next. is_light (next_of next further.new)) }
     ensures more { OnOk result (machine.old.taken ≤ machine.new.taken) }
     ensures within { OnOk result (machine.new.taken ≤ 16777216) }
+    ensures said { machine.new.messages.items ≡ machine.old.messages.items }
 {
     if step.raw() == 0 {
         return Err(wrong(7, source, turns.word));
     }
-    let next = try_number(machine, part, turns, first, last, step)?;
+    let next = try_number(machine, part, turns, first, last, step, further)?;
     Ok(next)
 }
 
@@ -478,15 +535,17 @@ pub fn make_from(
     source: &Written,
     machine: &mut Machine,
     part: &Part,
-    turns: Turns,
+    turns: &Turns,
     first: Fix,
-) -> Result<Next, Stop>
+    further: &mut Part,
+) -> Result<Rest, Stop>
     requires taken { machine.old.taken ≤ 16777216 }
-    ensures ok { IfOk result (λ next. made_from source.now part.now turns first (state_of machine.old) ≡ Ok (settled next (state_of machine.new))) }
-    ensures fault { IfErr result (λ f. made_from source.now part.now turns first (state_of machine.old) ≡ Err (stopped f (state_of machine.new))) }
-    ensures light { IfOk result is_light }
+    ensures ok { IfOk result (λ next. made_from source.now part.now turns.now first (state_of machine.old) ≡ Ok (settled (next_of next further.new) (state_of machine.new))) }
+    ensures fault { IfErr result (λ f. made_from source.now part.now turns.now first (state_of machine.old) ≡ Err (stopped f (state_of machine.new))) }
+    ensures light { IfOk result (λ next. is_light (next_of next further.new)) }
     ensures more { OnOk result (machine.old.taken ≤ machine.new.taken) }
     ensures within { OnOk result (machine.new.taken ≤ 16777216) }
+    ensures said { machine.new.messages.items ≡ machine.old.messages.items }
 {
     if part.end >= turns.close {
         return Err(wrong(4, source, part.end));
@@ -496,7 +555,8 @@ pub fn make_from(
         part,
         piece(source, part.end + 1, turns.close),
         is_piece_closed(source, part.end + 1, turns.close, turns.closed),
-        Then::To(turns, first),
+        Then::To(*turns, first),
+        further,
     ))
 }
 
@@ -505,26 +565,38 @@ pub fn make_to(
     source: &Written,
     machine: &mut Machine,
     part: &Part,
-    turns: Turns,
+    turns: &Turns,
     first: Fix,
     last: Fix,
-) -> Result<Next, Stop>
+    further: &mut Part,
+) -> Result<Rest, Stop>
     requires taken { machine.old.taken ≤ 16777216 }
-    ensures ok { IfOk result (λ next. made_to source.now part.now turns first last (state_of machine.old) ≡ Ok (settled next (state_of machine.new))) }
-    ensures fault { IfErr result (λ f. f ≢ NoMemory → made_to source.now part.now turns first last (state_of machine.old) ≡ Err (stopped f (state_of machine.new))) }
-    ensures light { IfOk result is_light }
+    ensures ok { IfOk result (λ next. made_to source.now part.now turns.now first last (state_of machine.old) ≡ Ok (settled (next_of next further.new) (state_of machine.new))) }
+    ensures fault { IfErr result (λ f. f ≢ NoMemory → made_to source.now part.now turns.now first last (state_of machine.old) ≡ Err (stopped f (state_of machine.new))) }
+    ensures light { IfOk result (λ next. is_light (next_of next further.new)) }
     ensures more { OnOk result (machine.old.taken ≤ machine.new.taken) }
     ensures within { OnOk result (machine.new.taken ≤ 16777216) }
+    ensures said { machine.new.messages.items ≡ machine.old.messages.items }
 {
     if part.end >= turns.close {
-        return begin_turns(source, machine, part, turns, first, last, Fix(65536));
+        return begin_turns(
+            source,
+            machine,
+            part,
+            turns,
+            first,
+            last,
+            Fix(65536),
+            further,
+        );
     }
     Ok(goes_on(
         machine,
         part,
         piece(source, part.end + 1, turns.close),
         is_piece_closed(source, part.end + 1, turns.close, turns.closed),
-        Then::By(turns, first, last),
+        Then::By(*turns, first, last),
+        further,
     ))
 }
 
@@ -533,22 +605,24 @@ pub fn make_by(
     source: &Written,
     machine: &mut Machine,
     part: &Part,
-    turns: Turns,
+    turns: &Turns,
     first: Fix,
     last: Fix,
     step: Fix,
-) -> Result<Next, Stop>
+    further: &mut Part,
+) -> Result<Rest, Stop>
     requires taken { machine.old.taken ≤ 16777216 }
-    ensures ok { IfOk result (λ next. made_by source.now part.now turns first last step (state_of machine.old) ≡ Ok (settled next (state_of machine.new))) }
-    ensures fault { IfErr result (λ f. f ≢ NoMemory → made_by source.now part.now turns first last step (state_of machine.old) ≡ Err (stopped f (state_of machine.new))) }
-    ensures light { IfOk result is_light }
+    ensures ok { IfOk result (λ next. made_by source.now part.now turns.now first last step (state_of machine.old) ≡ Ok (settled (next_of next further.new) (state_of machine.new))) }
+    ensures fault { IfErr result (λ f. f ≢ NoMemory → made_by source.now part.now turns.now first last step (state_of machine.old) ≡ Err (stopped f (state_of machine.new))) }
+    ensures light { IfOk result (λ next. is_light (next_of next further.new)) }
     ensures more { OnOk result (machine.old.taken ≤ machine.new.taken) }
     ensures within { OnOk result (machine.new.taken ≤ 16777216) }
+    ensures said { machine.new.messages.items ≡ machine.old.messages.items }
 {
     if part.end < turns.close {
         return Err(wrong(4, source, part.end));
     }
-    begin_turns(source, machine, part, turns, first, last, step)
+    begin_turns(source, machine, part, turns, first, last, step, further)
 }
 
 /// The body of a `#for`: the next number is tried.
@@ -556,22 +630,24 @@ pub fn turn(
     source: &Written,
     machine: &mut Machine,
     part: &Part,
-    turns: Turns,
+    turns: &Turns,
     old: Fix,
     last: Fix,
     step: Fix,
-) -> Result<Next, Stop>
+    further: &mut Part,
+) -> Result<Rest, Stop>
     requires taken { machine.old.taken ≤ 16777216 }
-    ensures ok { IfOk result (λ next. turned source.now part.now turns old last step (state_of machine.old) ≡ Ok (settled next (state_of machine.new))) }
-    ensures fault { IfErr result (λ f. f ≢ NoMemory → turned source.now part.now turns old last step (state_of machine.old) ≡ Err (stopped f (state_of machine.new))) }
-    ensures more { IfOk result (λ next. keeps_measure next machine.old.taken machine.new.taken (weight (Then.Turn turns old last step))) }
+    ensures ok { IfOk result (λ next. turned source.now part.now turns.now old last step (state_of machine.old) ≡ Ok (settled (next_of next further.new) (state_of machine.new))) }
+    ensures fault { IfErr result (λ f. f ≢ NoMemory → turned source.now part.now turns.now old last step (state_of machine.old) ≡ Err (stopped f (state_of machine.new))) }
+    ensures more { IfOk result (λ next. keeps_measure (next_of next further.new) machine.old.taken machine.new.taken (weight (Then.Turn turns.now old last step))) }
     ensures within { OnOk result (machine.new.taken ≤ 16777216) }
+    ensures said { machine.new.messages.items ≡ machine.old.messages.items }
 {
     if step.raw() == 0 {
-        return Ok(Next::Done(false));
+        return Ok(Rest::Done(false));
     }
     match add(old, step) {
-        Ok(next) => try_number(machine, part, turns, next, last, step),
+        Ok(next) => try_number(machine, part, turns, next, last, step, further),
         Err(_) => Err(Stop::Expr(ExprFault::Range(place_at(source.tokens(), turns.word)))),
     }
 }

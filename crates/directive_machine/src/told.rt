@@ -1,12 +1,13 @@
 // What is made of an expanded part that names no text.
-ghost use Rattle.std.specs.Prelude.{true, false, ◌≡◌, ◌≢◌, ◌<◌, ◌≤◌, ◌^◌, ◌+ℤ◌, Some, None, Ok, Err, IfOk, IfErr, OnOk, drop};
+ghost use Rattle.std.specs.Prelude.{true, false, ◌≡◌, ◌≢◌, ◌<◌, ◌≤◌, ◌^◌, ◌+ℤ◌, Some, None, Ok, Err, IfOk, IfErr, OnOk, OnErr, drop};
 ghost use Rattle.scene_expr.specs.Values.{AreWhole};
+ghost use Rattle.directive_machine.specs.Moves.{next_of, Next};
 ghost use Rattle.directive_machine.specs.State.{stopped, settled, restored};
 ghost use Rattle.directive_machine.specs.Values.{IsEvaluated, IsValued, closed, given};
 ghost use Rattle.directive_machine.specs.Holds.{held_block, is_one_block};
 ghost use Rattle.directive_machine.specs.Settles.{made, is_plain, is_told, is_argument, settled_by, given_up, dropped};
 ghost use Rattle.directive_machine.specs.Parts.{IsMade, IsSide, IsSideBy, IsExpression, IsTold};
-ghost use Rattle.directive_machine.specs.Weights.{is_light, is_done, keeps_measure, weight};
+ghost use Rattle.directive_machine.specs.Weights.{is_light, keeps_measure, weight};
 ghost use Rattle.directive_machine.specs.Carried.{state_of};
 ghost use Rattle.directive_machine.specs.declared.stop.Stop.TheVariants.{NoMemory};
 
@@ -14,7 +15,7 @@ use crate::arguments::{call_at_once, give, make_argument, refer};
 use crate::declared_blocks::{hold, make_block};
 use crate::machine::Machine;
 use crate::made::{Valued, close, make_bound, make_plain, turn_again};
-use crate::part::{Call, Next, Part, Then};
+use crate::part::{Call, Part, Rest, Then};
 use crate::settle::{fall, number, turn};
 use crate::stop::Stop;
 use scene_expr::Settings;
@@ -35,6 +36,7 @@ pub fn value(
     ensures fault { IfErr result (λ f. f ≢ NoMemory → IsValued set.now source.now part.now (state_of machine.old) (Err (stopped f (state_of machine.new)))) }
     ensures more { OnOk result (machine.old.taken < machine.new.taken) }
     ensures within { OnOk result (machine.new.taken ≤ 16777216) }
+    ensures said { machine.new.messages.items ≡ machine.old.messages.items }
 {
     close(source, machine, part)?;
     let found = machine.evaluate(alloc, set, part.from)?;
@@ -48,17 +50,19 @@ fn make_value(
     source: &Written,
     machine: &mut Machine,
     part: &Part,
-) -> Result<Next, Stop>
+    further: &mut Part,
+) -> Result<Rest, Stop>
     requires whole { AreWhole set.now }
     requires plain { is_plain part.now.then ≡ true }
-    ensures ok { IfOk result (λ next. IsMade set.now source.now None part.now (state_of machine.old) (Ok (settled next (state_of machine.new)))) }
+    ensures ok { IfOk result (λ next. IsMade set.now source.now None part.now (state_of machine.old) (Ok (settled (next_of next further.new) (state_of machine.new)))) }
     ensures fault { IfErr result (λ f. f ≢ NoMemory → IsMade set.now source.now None part.now (state_of machine.old) (Err (stopped f (state_of machine.new)))) }
-    ensures light { IfOk result is_light }
+    ensures light { IfOk result (λ next. is_light (next_of next further.new)) }
     ensures more { OnOk result (machine.old.taken < machine.new.taken) }
     ensures within { OnOk result (machine.new.taken ≤ 16777216) }
+    ensures said { OnErr result (machine.new.messages.items ≡ machine.old.messages.items) }
 {
     let found = value(alloc, set, source, machine, part)?;
-    let next = make_plain(source, machine, part, found.value, found.first)?;
+    let next = make_plain(source, machine, part, found.value, found.first, further)?;
     Ok(next)
 }
 
@@ -70,15 +74,17 @@ pub fn pass_value(
     home: &Written,
     machine: &mut Machine,
     part: &Part,
-    call: Call,
-) -> Result<Next, Stop>
+    call: &Call,
+    further: &mut Part,
+) -> Result<Rest, Stop>
     requires whole { AreWhole set.now }
-    requires pass { part.now.then ≡ Then.Pass call }
-    ensures ok { IfOk result (λ next. IsMade set.now source.now (Some home.now) part.now (state_of machine.old) (Ok (settled next (state_of machine.new)))) }
+    requires pass { part.now.then ≡ Then.Pass call.now }
+    ensures ok { IfOk result (λ next. IsMade set.now source.now (Some home.now) part.now (state_of machine.old) (Ok (settled (next_of next further.new) (state_of machine.new)))) }
     ensures fault { IfErr result (λ f. f ≢ NoMemory → IsMade set.now source.now (Some home.now) part.now (state_of machine.old) (Err (stopped f (state_of machine.new)))) }
-    ensures light { IfOk result is_light }
+    ensures light { IfOk result (λ next. is_light (next_of next further.new)) }
     ensures more { OnOk result (machine.old.taken < machine.new.taken) }
     ensures within { OnOk result (machine.new.taken ≤ 16777216) }
+    ensures said { machine.new.messages.items ≡ machine.old.messages.items }
 {
     let found = value(alloc, set, source, machine, part)?;
     let next = make_argument(
@@ -88,6 +94,7 @@ pub fn pass_value(
         part,
         call,
         Binding::Value(found.value),
+        further,
     )?;
     Ok(next)
 }
@@ -101,19 +108,21 @@ fn make_side_by(
     part: &Part,
     name: usize,
     local: bool,
-) -> Result<Next, Stop>
+    further: &mut Part,
+) -> Result<Rest, Stop>
     requires whole { AreWhole set.now }
     requires taken { machine.old.taken ≤ 16777216 }
-    ensures ok { IfOk result (λ next. IsSideBy set.now source.now part.now name local (state_of machine.old) (Ok (settled next (state_of machine.new)))) }
+    ensures ok { IfOk result (λ next. IsSideBy set.now source.now part.now name local (state_of machine.old) (Ok (settled (next_of next further.new) (state_of machine.new)))) }
     ensures fault { IfErr result (λ f. f ≢ NoMemory → IsSideBy set.now source.now part.now name local (state_of machine.old) (Err (stopped f (state_of machine.new)))) }
-    ensures light { IfOk result is_light }
+    ensures light { IfOk result (λ next. is_light (next_of next further.new)) }
     ensures more { OnOk result (machine.old.taken ≤ machine.new.taken) }
     ensures within { OnOk result (machine.new.taken ≤ 16777216) }
+    ensures said { machine.new.messages.items ≡ machine.old.messages.items }
 {
     if machine.is_one_block(part.from) {
-        hold(alloc, machine, part, name, local)
+        hold(alloc, machine, part, name, local, further)
     } else {
-        make_expression(alloc, set, source, machine, part, name, local)
+        make_expression(alloc, set, source, machine, part, name, local, further)
     }
 }
 
@@ -125,17 +134,28 @@ fn make_expression(
     part: &Part,
     name: usize,
     local: bool,
-) -> Result<Next, Stop>
+    further: &mut Part,
+) -> Result<Rest, Stop>
     requires whole { AreWhole set.now }
     requires taken { machine.old.taken ≤ 16777216 }
-    ensures ok { IfOk result (λ next. IsExpression set.now source.now part.now name local (state_of machine.old) (Ok (settled next (state_of machine.new)))) }
+    ensures ok { IfOk result (λ next. IsExpression set.now source.now part.now name local (state_of machine.old) (Ok (settled (next_of next further.new) (state_of machine.new)))) }
     ensures fault { IfErr result (λ f. f ≢ NoMemory → IsExpression set.now source.now part.now name local (state_of machine.old) (Err (stopped f (state_of machine.new)))) }
-    ensures light { IfOk result is_light }
+    ensures light { IfOk result (λ next. is_light (next_of next further.new)) }
     ensures more { OnOk result (machine.old.taken ≤ machine.new.taken) }
     ensures within { OnOk result (machine.new.taken ≤ 16777216) }
+    ensures said { machine.new.messages.items ≡ machine.old.messages.items }
 {
     let found = machine.evaluate(alloc, set, part.from)?;
-    let next = make_bound(source, machine, part, name, local, found.value, found.first)?;
+    let next = make_bound(
+        source,
+        machine,
+        part,
+        name,
+        local,
+        found.value,
+        found.first,
+        further,
+    )?;
     Ok(next)
 }
 
@@ -148,16 +168,18 @@ fn make_side(
     part: &Part,
     name: usize,
     local: bool,
-) -> Result<Next, Stop>
+    further: &mut Part,
+) -> Result<Rest, Stop>
     requires whole { AreWhole set.now }
-    ensures ok { IfOk result (λ next. IsSide set.now source.now part.now name local (state_of machine.old) (Ok (settled next (state_of machine.new)))) }
+    ensures ok { IfOk result (λ next. IsSide set.now source.now part.now name local (state_of machine.old) (Ok (settled (next_of next further.new) (state_of machine.new)))) }
     ensures fault { IfErr result (λ f. f ≢ NoMemory → IsSide set.now source.now part.now name local (state_of machine.old) (Err (stopped f (state_of machine.new)))) }
-    ensures light { IfOk result is_light }
+    ensures light { IfOk result (λ next. is_light (next_of next further.new)) }
     ensures more { OnOk result (machine.old.taken < machine.new.taken) }
     ensures within { OnOk result (machine.new.taken ≤ 16777216) }
+    ensures said { machine.new.messages.items ≡ machine.old.messages.items }
 {
     close(source, machine, part)?;
-    let next = make_side_by(alloc, set, source, machine, part, name, local)?;
+    let next = make_side_by(alloc, set, source, machine, part, name, local, further)?;
     Ok(next)
 }
 
@@ -168,43 +190,49 @@ pub fn tell(
     source: &Written,
     machine: &mut Machine,
     part: &Part,
-) -> Result<Next, Stop>
+    further: &mut Part,
+) -> Result<Rest, Stop>
     requires whole { AreWhole set.now }
     requires told { is_told part.now.then ≡ true }
     requires taken { machine.old.taken ≤ 16777216 }
-    ensures ok { IfOk result (λ next. IsTold set.now source.now None part.now part.now.then (state_of machine.old) (Ok (settled next (state_of machine.new)))) }
+    ensures ok { IfOk result (λ next. IsTold set.now source.now None part.now part.now.then (state_of machine.old) (Ok (settled (next_of next further.new) (state_of machine.new)))) }
     ensures fault { IfErr result (λ f. f ≢ NoMemory → IsTold set.now source.now None part.now part.now.then (state_of machine.old) (Err (stopped f (state_of machine.new)))) }
-    ensures more { IfOk result (λ next. keeps_measure next machine.old.taken machine.new.taken (weight part.now.then)) }
+    ensures more { IfOk result (λ next. keeps_measure (next_of next further.new) machine.old.taken machine.new.taken (weight part.now.then)) }
     ensures within { OnOk result (machine.new.taken ≤ 16777216) }
+    ensures said { OnErr result (machine.new.messages.items ≡ machine.old.messages.items) }
 {
-    match part.then {
-        Then::Bind { name, local } => make_side(alloc, set, source, machine, part, name, local),
-        Then::Decide { .. } => make_value(alloc, set, source, machine, part),
-        Then::Test(_) => make_value(alloc, set, source, machine, part),
-        Then::Choose(_) => make_value(alloc, set, source, machine, part),
-        Then::Case(_) => make_value(alloc, set, source, machine, part),
-        Then::Low(_) => make_value(alloc, set, source, machine, part),
-        Then::High(_, _) => make_value(alloc, set, source, machine, part),
-        Then::From(_) => make_value(alloc, set, source, machine, part),
-        Then::To(_, _) => make_value(alloc, set, source, machine, part),
-        Then::By(_, _, _) => make_value(alloc, set, source, machine, part),
-        Then::Say { .. } => make_value(alloc, set, source, machine, part),
-        Then::Plain => Ok(Next::Done(false)),
+    match &part.then {
+        Then::Bind { name, local } => make_side(
+            alloc, set, source, machine, part, *name, *local, further,
+        ),
+        Then::Decide { .. } => make_value(alloc, set, source, machine, part, further),
+        Then::Test(_) => make_value(alloc, set, source, machine, part, further),
+        Then::Choose(_) => make_value(alloc, set, source, machine, part, further),
+        Then::Case(_) => make_value(alloc, set, source, machine, part, further),
+        Then::Low(_) => make_value(alloc, set, source, machine, part, further),
+        Then::High(_, _) => make_value(alloc, set, source, machine, part, further),
+        Then::From(_) => make_value(alloc, set, source, machine, part, further),
+        Then::To(_, _) => make_value(alloc, set, source, machine, part, further),
+        Then::By(_, _, _) => make_value(alloc, set, source, machine, part, further),
+        Then::Say { .. } => make_value(alloc, set, source, machine, part, further),
+        Then::Plain => Ok(Rest::Done(false)),
         Then::Leave => {
             machine.scopes.leave();
-            Ok(Next::Done(false))
+            Ok(Rest::Done(false))
         }
         Then::Hold { name, local, stop } => make_block(
-            alloc, source, machine, part, name, local, stop,
+            alloc, source, machine, part, *name, *local, *stop, further,
         ),
-        Then::Again(circle) => turn_again(source, machine, part, circle),
-        Then::Fall(parted) => fall(source, machine, part, parted),
-        Then::Turn(turns, old, last, step) => turn(source, machine, part, turns, old, last, step),
-        Then::Enter(call) => call_at_once(source, machine, part, call),
-        Then::Pass(_) => Ok(Next::Done(false)),
-        Then::Give(_) => Ok(Next::Done(false)),
-        Then::Refer(_, _) => Ok(Next::Done(false)),
-        Then::Read(_) => Ok(Next::Done(false)),
+        Then::Again(circle) => turn_again(source, machine, part, circle, further),
+        Then::Fall(parted) => fall(source, machine, part, *parted, further),
+        Then::Turn(turns, old, last, step) => turn(
+            source, machine, part, turns, *old, *last, *step, further,
+        ),
+        Then::Enter(call) => call_at_once(source, machine, part, call, further),
+        Then::Pass(_) => Ok(Rest::Done(false)),
+        Then::Give(_) => Ok(Rest::Done(false)),
+        Then::Refer(_, _) => Ok(Rest::Done(false)),
+        Then::Read(_) => Ok(Rest::Done(false)),
     }
 }
 
@@ -216,52 +244,54 @@ pub fn tell_argument(
     home: &Written,
     machine: &mut Machine,
     part: &Part,
-) -> Result<Next, Stop>
+    further: &mut Part,
+) -> Result<Rest, Stop>
     requires whole { AreWhole set.now }
     requires argument { is_argument part.now.then ≡ true }
     requires taken { machine.old.taken ≤ 16777216 }
-    ensures ok { IfOk result (λ next. IsTold set.now source.now (Some home.now) part.now part.now.then (state_of machine.old) (Ok (settled next (state_of machine.new)))) }
+    ensures ok { IfOk result (λ next. IsTold set.now source.now (Some home.now) part.now part.now.then (state_of machine.old) (Ok (settled (next_of next further.new) (state_of machine.new)))) }
     ensures fault { IfErr result (λ f. f ≢ NoMemory → IsTold set.now source.now (Some home.now) part.now part.now.then (state_of machine.old) (Err (stopped f (state_of machine.new)))) }
-    ensures more { IfOk result (λ next. keeps_measure next machine.old.taken machine.new.taken (weight part.now.then)) }
+    ensures more { IfOk result (λ next. keeps_measure (next_of next further.new) machine.old.taken machine.new.taken (weight part.now.then)) }
     ensures within { OnOk result (machine.new.taken ≤ 16777216) }
+    ensures said { machine.new.messages.items ≡ machine.old.messages.items }
 {
-    match part.then {
-        Then::Pass(call) => pass_value(alloc, set, source, home, machine, part, call),
-        Then::Give(call) => give(alloc, source, home, machine, part, call),
-        Then::Refer(call, name) => refer(source, home, machine, part, call, name),
-        _ => Ok(Next::Done(false)),
+    match &part.then {
+        Then::Pass(call) => pass_value(alloc, set, source, home, machine, part, call, further),
+        Then::Give(call) => give(alloc, source, home, machine, part, call, further),
+        Then::Refer(call, name) => refer(source, home, machine, part, call, *name, further),
+        _ => Ok(Rest::Done(false)),
     }
 }
 
-/// Gives up the scope of a call whose arguments are read, and the list aside.
-fn drop_call(machine: &mut Machine, from: usize) -> Next
-    ensures value { settled result (state_of machine.new) ≡ settled (Next.Done true) (dropped (restored from (state_of machine.old))) }
+/// Gives up the scope of a call whose arguments are read, and the list aside. The `#break` goes on.
+fn drop_call(machine: &mut Machine, from: usize) -> bool
+    ensures value { settled (Next.Done result) (state_of machine.new) ≡ settled (Next.Done true) (dropped (restored from (state_of machine.old))) }
     ensures taken { machine.new.taken ≡ machine.old.taken }
-    ensures done { is_done result }
+    ensures said { machine.new.messages.items ≡ machine.old.messages.items }
 {
     machine.out.truncate(from);
     machine.waiting.leave();
-    Next::Done(true)
+    true
 }
 
-/// What a `#break` gives up.
-pub fn give_up(machine: &mut Machine, part: &Part) -> Result<Next, Stop>
-    ensures ok { IfOk result (λ next. given_up part.now part.now.then (state_of machine.old) ≡ settled next (state_of machine.new)) }
+/// What a `#break` gives up, and whether it goes on behind that.
+pub fn give_up(machine: &mut Machine, part: &Part) -> Result<bool, Stop>
+    ensures ok { IfOk result (λ broken. given_up part.now part.now.then (state_of machine.old) ≡ settled (Next.Done broken) (state_of machine.new)) }
     ensures fault { IfErr result (λ f. f ≡ NoMemory) }
     ensures taken { OnOk result (machine.new.taken ≡ machine.old.taken) }
-    ensures done { IfOk result is_done }
+    ensures said { machine.new.messages.items ≡ machine.old.messages.items }
 {
-    match part.then {
-        Then::Plain => Ok(Next::Done(true)),
+    match &part.then {
+        Then::Plain => Ok(true),
         Then::Leave => {
             machine.scopes.leave();
-            Ok(Next::Done(true))
+            Ok(true)
         }
-        Then::Again(_) => Ok(Next::Done(false)),
-        Then::Fall(_) => Ok(Next::Done(false)),
+        Then::Again(_) => Ok(false),
+        Then::Fall(_) => Ok(false),
         Then::Turn(turns, old, _, _) => {
-            number(machine, turns, old)?;
-            Ok(Next::Done(false))
+            number(machine, turns, *old)?;
+            Ok(false)
         }
         Then::Test(_) => Ok(end_loop(machine, part.from)),
         Then::Choose(_) => Ok(end_loop(machine, part.from)),
@@ -283,22 +313,22 @@ pub fn give_up(machine: &mut Machine, part: &Part) -> Result<Next, Stop>
     }
 }
 
-/// The head of a loop or switch is given up, and the loop with it.
-fn end_loop(machine: &mut Machine, from: usize) -> Next
-    ensures value { settled result (state_of machine.new) ≡ settled (Next.Done false) (restored from (state_of machine.old)) }
+/// The head of a loop or switch is given up, and the loop with it: the `#break` ends here.
+fn end_loop(machine: &mut Machine, from: usize) -> bool
+    ensures value { settled (Next.Done result) (state_of machine.new) ≡ settled (Next.Done false) (restored from (state_of machine.old)) }
     ensures taken { machine.new.taken ≡ machine.old.taken }
-    ensures done { is_done result }
+    ensures said { machine.new.messages.items ≡ machine.old.messages.items }
 {
     machine.out.truncate(from);
-    Next::Done(false)
+    false
 }
 
-/// A list aside is given up.
-fn give_list_up(machine: &mut Machine, from: usize) -> Next
-    ensures value { settled result (state_of machine.new) ≡ settled (Next.Done true) (restored from (state_of machine.old)) }
+/// A list aside is given up. The `#break` goes on.
+fn give_list_up(machine: &mut Machine, from: usize) -> bool
+    ensures value { settled (Next.Done result) (state_of machine.new) ≡ settled (Next.Done true) (restored from (state_of machine.old)) }
     ensures taken { machine.new.taken ≡ machine.old.taken }
-    ensures done { is_done result }
+    ensures said { machine.new.messages.items ≡ machine.old.messages.items }
 {
     machine.out.truncate(from);
-    Next::Done(true)
+    true
 }

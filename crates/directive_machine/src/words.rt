@@ -1,6 +1,7 @@
 // What the words of a text that aren't directives come to.
 ghost use Rattle.std.specs.Prelude.{◌≡◌, ◌≢◌, ◌<◌, ◌≤◌, ◌+◌, ◌++◌, ◌^◌, ◌∷◌, [], map, Some, Ok, Err, IfOk, IfErr, OnOk, length, slice_get, option_map};
-ghost use Rattle.directive_machine.specs.State.{stopped, begun, on_ok, counted};
+ghost use Rattle.directive_machine.specs.Moves.{action_of};
+ghost use Rattle.directive_machine.specs.State.{stopped, begun, on_ok, counted, given_out};
 ghost use Rattle.directive_machine.specs.Words.{handed_token, handed_at, like, rest_of_row, row_of, value_tokens, placed, substituted, is_defined, is_bound_by, truth, handed_truth, begun_defined, commas, arguments, argued, argued_part, may_hold, is_braced, list_argued, word_argued, argument, first_argument, call_of, is_misfit, calling, begun_call, begun_bound};
 ghost use Rattle.scope_tables.specs.Names.{found, entered};
 ghost use Rattle.directive_machine.specs.Carried.{state_of};
@@ -8,7 +9,7 @@ ghost use Rattle.directive_machine.specs.declared.stop.Stop.TheVariants.{NoMemor
 
 use crate::blocks::{is_closed, is_piece_closed, listed, piece};
 use crate::machine::{Machine, is_aside, wrong};
-use crate::part::{Action, Call, Part, Then};
+use crate::part::{Call, Lead, Part, Then};
 use crate::stop::Stop;
 use fix_math::{Fix, Str};
 use scene_expr::Value;
@@ -18,6 +19,7 @@ use std::alloc::{AllocError, Global};
 use text_structure::{Closer, Known, Mark, Written, is_word, sign_at};
 
 /// A token that has the place of another one.
+#[inline(always)]
 fn like(token: &Token, kind: Kind) -> Token
     ensures { result ≡ like token.now kind }
 {
@@ -28,30 +30,92 @@ fn like(token: &Token, kind: Kind) -> Token
     }
 }
 
+/// The fault of a token that the flat list has no room for.
+#[cold]
+fn full(token: &Token) -> Stop
+    ensures { result ≡ Stop.Limit 2 token.now.place }
+{
+    Stop::Limit {
+        which: 2,
+        place: token.place,
+    }
+}
+
+/// A sign is handed out.
+#[inline(always)]
+fn put_sign(machine: &mut Machine, token: &Token, code: u8) -> Result<(), AllocError>
+    ensures state { OnOk result (state_of machine.new ≡ given_out (like token.now (Kind.Sign code) ∷ []) (state_of machine.old)) }
+    ensures taken { machine.new.taken ≡ machine.old.taken }
+    ensures said { machine.new.messages.items ≡ machine.old.messages.items }
+{
+    machine.put(like(token, Kind::Sign(code)))
+}
+
+/// A number is handed out.
+#[inline(always)]
+fn put_number(machine: &mut Machine, token: &Token, value: Fix) -> Result<(), AllocError>
+    ensures state { OnOk result (state_of machine.new ≡ given_out (like token.now (Kind.Number value) ∷ []) (state_of machine.old)) }
+    ensures taken { machine.new.taken ≡ machine.old.taken }
+    ensures said { machine.new.messages.items ≡ machine.old.messages.items }
+{
+    machine.put(like(token, Kind::Number(value)))
+}
+
+/// A word or a text is handed out.
+#[inline(never)]
+fn put_word(alloc: Global, machine: &mut Machine, token: &Token) -> Result<(), AllocError>
+    ensures state { OnOk result (state_of machine.new ≡ given_out (token.now ∷ []) (state_of machine.old)) }
+    ensures taken { machine.new.taken ≡ machine.old.taken }
+    ensures said { machine.new.messages.items ≡ machine.old.messages.items }
+{
+    let copy = token.copy(alloc)?;
+    machine.put(copy)
+}
+
+/// A token is handed out as it is.
+#[inline(always)]
+fn put_copy(alloc: Global, machine: &mut Machine, token: &Token) -> Result<(), AllocError>
+    ensures state { OnOk result (state_of machine.new ≡ given_out (token.now ∷ []) (state_of machine.old)) }
+    ensures taken { machine.new.taken ≡ machine.old.taken }
+    ensures said { machine.new.messages.items ≡ machine.old.messages.items }
+{
+    match &token.kind {
+        Kind::Sign(code) => put_sign(machine, token, *code),
+        Kind::Number(value) => put_number(machine, token, *value),
+        Kind::Word(_) => put_word(alloc, machine, token),
+        Kind::Text(_) => put_word(alloc, machine, token),
+    }
+}
+
 /// Hands a token of a text out as it is.
+#[inline(always)]
 pub fn hand_out(
     alloc: Global,
     source: &Written,
     machine: &mut Machine,
     part: &Part,
     at: usize,
-) -> Result<Action, Stop>
+    inner: &mut Part,
+) -> Result<Lead, Stop>
     requires place { at < 2 ^ 25 }
     requires taken { machine.old.taken ≤ 16777216 }
-    ensures ok { IfOk result (λ action. handed_at source.now part.now at (state_of machine.old) ≡ Ok (begun action (state_of machine.new))) }
+    ensures ok { IfOk result (λ action. handed_at source.now part.now at (state_of machine.old) ≡ Ok (begun (action_of action inner.new) (state_of machine.new))) }
     ensures fault { IfErr result (λ f. f ≢ NoMemory → handed_at source.now part.now at (state_of machine.old) ≡ Err (stopped f (state_of machine.new))) }
     ensures more { OnOk result (machine.old.taken ≤ machine.new.taken) }
     ensures within { OnOk result (machine.new.taken ≤ 16777216) }
+    ensures said { machine.new.messages.items ≡ machine.old.messages.items }
 {
     match source.token(at) {
-        Some(token) => match token.copy(alloc) {
-            Ok(copy) => {
-                machine.give(part, copy)?;
-                Ok(Action::Step(at + 1))
+        Some(token) => {
+            if !machine.is_free(part) {
+                return Err(full(token));
             }
-            Err(_) => Err(Stop::NoMemory),
-        },
-        None => Ok(Action::Step(at + 1)),
+            match put_copy(alloc, machine, token) {
+                Ok(()) => Ok(Lead::Step(at + 1)),
+                Err(_) => Err(Stop::NoMemory),
+            }
+        }
+        None => Ok(Lead::Step(at + 1)),
     }
 }
 
@@ -124,33 +188,43 @@ fn substitute(
     token: &Token,
     tokens: Vec<Token>,
     next: usize,
-) -> Result<Action, Stop>
+    inner: &mut Part,
+) -> Result<Lead, Stop>
     requires taken { machine.old.taken ≤ 16777216 }
-    ensures ok { IfOk result (λ action. substituted part.now next token.now tokens.items (state_of machine.old) ≡ Ok (begun action (state_of machine.new))) }
+    ensures ok { IfOk result (λ action. substituted part.now next token.now tokens.items (state_of machine.old) ≡ Ok (begun (action_of action inner.new) (state_of machine.new))) }
     ensures fault { IfErr result (λ f. f ≢ NoMemory → substituted part.now next token.now tokens.items (state_of machine.old) ≡ Err (stopped f (state_of machine.new))) }
     ensures more { OnOk result (machine.old.taken ≤ machine.new.taken) }
     ensures within { OnOk result (machine.new.taken ≤ 16777216) }
+    ensures said { machine.new.messages.items ≡ machine.old.messages.items }
 {
     machine.give_all(part, tokens, token.place)?;
-    Ok(Action::Step(next))
+    Ok(Lead::Step(next))
 }
 
 /// A number is handed out in the place of a name.
+#[inline(always)]
 fn substitute_number(
     machine: &mut Machine,
     part: &Part,
     token: &Token,
     value: Fix,
     next: usize,
-) -> Result<Action, Stop>
+    inner: &mut Part,
+) -> Result<Lead, Stop>
     requires taken { machine.old.taken ≤ 16777216 }
-    ensures ok { IfOk result (λ action. substituted part.now next token.now (like token.now (Kind.Number value) ∷ []) (state_of machine.old) ≡ Ok (begun action (state_of machine.new))) }
+    ensures ok { IfOk result (λ action. substituted part.now next token.now (like token.now (Kind.Number value) ∷ []) (state_of machine.old) ≡ Ok (begun (action_of action inner.new) (state_of machine.new))) }
     ensures fault { IfErr result (λ f. f ≢ NoMemory → substituted part.now next token.now (like token.now (Kind.Number value) ∷ []) (state_of machine.old) ≡ Err (stopped f (state_of machine.new))) }
     ensures more { OnOk result (machine.old.taken ≤ machine.new.taken) }
     ensures within { OnOk result (machine.new.taken ≤ 16777216) }
+    ensures said { machine.new.messages.items ≡ machine.old.messages.items }
 {
-    machine.give(part, like(token, Kind::Number(value)))?;
-    Ok(Action::Step(next))
+    if !machine.is_free(part) {
+        return Err(full(token));
+    }
+    match put_number(machine, token, value) {
+        Ok(()) => Ok(Lead::Step(next)),
+        Err(_) => Err(Stop::NoMemory),
+    }
 }
 
 fn is_defined(source: &Written, at: usize, end: usize) -> bool
@@ -188,43 +262,48 @@ fn give_truth(
     part: &Part,
     held: bool,
     at: usize,
-) -> Result<Action, Stop>
+    inner: &mut Part,
+) -> Result<Lead, Stop>
     requires place { at < 2 ^ 24 }
     requires taken { machine.old.taken ≤ 16777216 }
-    ensures ok { IfOk result (λ action. handed_truth (slice_get source.now.tokens at) part.now held (at + 4) (state_of machine.old) ≡ Ok (begun action (state_of machine.new))) }
+    ensures ok { IfOk result (λ action. handed_truth (slice_get source.now.tokens at) part.now held (at + 4) (state_of machine.old) ≡ Ok (begun (action_of action inner.new) (state_of machine.new))) }
     ensures fault { IfErr result (λ f. f ≢ NoMemory → handed_truth (slice_get source.now.tokens at) part.now held (at + 4) (state_of machine.old) ≡ Err (stopped f (state_of machine.new))) }
     ensures more { OnOk result (machine.old.taken ≤ machine.new.taken) }
     ensures within { OnOk result (machine.new.taken ≤ 16777216) }
+    ensures said { machine.new.messages.items ≡ machine.old.messages.items }
 {
     match source.token(at) {
-        Some(token) => substitute_number(machine, part, token, truth(held), at + 4),
-        None => Ok(Action::Step(at + 4)),
+        Some(token) => substitute_number(machine, part, token, truth(held), at + 4, inner),
+        None => Ok(Lead::Step(at + 4)),
     }
 }
 
 /// `defined(N)`, or the word alone.
+#[inline(never)]
 pub fn begin_defined(
     alloc: Global,
     source: &Written,
     machine: &mut Machine,
     part: &Part,
     at: usize,
-) -> Result<Action, Stop>
+    inner: &mut Part,
+) -> Result<Lead, Stop>
     requires place { at < 2 ^ 24 }
     requires taken { machine.old.taken ≤ 16777216 }
-    ensures ok { IfOk result (λ action. begun_defined source.now part.now at (state_of machine.old) ≡ Ok (begun action (state_of machine.new))) }
+    ensures ok { IfOk result (λ action. begun_defined source.now part.now at (state_of machine.old) ≡ Ok (begun (action_of action inner.new) (state_of machine.new))) }
     ensures fault { IfErr result (λ f. f ≢ NoMemory → begun_defined source.now part.now at (state_of machine.old) ≡ Err (stopped f (state_of machine.new))) }
     ensures more { OnOk result (machine.old.taken ≤ machine.new.taken) }
     ensures within { OnOk result (machine.new.taken ≤ 16777216) }
+    ensures said { machine.new.messages.items ≡ machine.old.messages.items }
 {
     if !is_defined(source, at, part.end) {
-        return hand_out(alloc, source, machine, part, at);
+        return hand_out(alloc, source, machine, part, at, inner);
     }
     machine.count(source, at + 1)?;
     machine.count(source, at + 2)?;
     machine.count(source, at + 3)?;
     let held = is_bound_by(machine, source.mark(at + 2));
-    let action = give_truth(source, machine, part, held, at)?;
+    let action = give_truth(source, machine, part, held, at, inner)?;
     Ok(action)
 }
 
@@ -262,20 +341,26 @@ fn arguments(source: &Written, at: usize, close: usize) -> usize
     }
 }
 
-/// An argument as a part.
-fn argued(outer: &Part, at: usize, end: usize, closed: bool, from: usize, then: Then) -> Part
-    ensures { result ≡ argued_part outer.now at end closed from then }
+/// Writes an argument down as a part.
+fn argued(
+    outer: &Part,
+    at: usize,
+    end: usize,
+    closed: bool,
+    from: usize,
+    then: Then,
+    inner: &mut Part,
+)
+    ensures { inner.new ≡ argued_part outer.now at end closed from then }
 {
-    Part {
-        text: outer.text,
-        depth: outer.depth,
-        at,
-        end,
-        closed,
-        from,
-        outer: outer.outer,
-        then,
-    }
+    inner.text = outer.text;
+    inner.at = at;
+    inner.end = end;
+    inner.from = from;
+    inner.depth = outer.depth;
+    inner.closed = closed;
+    inner.outer = outer.outer;
+    inner.then = then;
 }
 
 fn may_hold(mark: Option<Mark>) -> bool
@@ -309,18 +394,35 @@ fn list_argued(
     source: &Written,
     machine: &Machine,
     outer: &Part,
-    call: Call,
+    call: &Call,
     at: usize,
     end: usize,
     closed: bool,
-) -> Part
+    inner: &mut Part,
+)
     requires { at < 2 ^ 33 }
-    ensures { list_argued source.now outer.now call at end closed (state_of machine.now) ≡ Ok (record { part = result; state = state_of machine.now }) }
+    ensures { list_argued source.now outer.now call.now at end closed (state_of machine.now) ≡ Ok (record { part = inner.new; state = state_of machine.now }) }
 {
     if is_braced(source, at, end) {
-        argued(outer, at, end, closed, machine.given(), Then::Give(call))
+        argued(
+            outer,
+            at,
+            end,
+            closed,
+            machine.given(),
+            Then::Give(*call),
+            inner,
+        );
     } else {
-        argued(outer, at, end, closed, machine.given(), Then::Pass(call))
+        argued(
+            outer,
+            at,
+            end,
+            closed,
+            machine.given(),
+            Then::Pass(*call),
+            inner,
+        );
     }
 }
 
@@ -329,58 +431,80 @@ fn refer(
     source: &Written,
     machine: &mut Machine,
     outer: &Part,
-    call: Call,
+    call: &Call,
     name: usize,
     at: usize,
     end: usize,
     closed: bool,
-) -> Result<Part, Stop>
+    inner: &mut Part,
+) -> Result<(), Stop>
     requires taken { machine.old.taken ≤ 16777216 }
-    ensures ok { IfOk result (λ part. on_ok (counted source.now at (state_of machine.old)) (argued outer.now end end closed (Then.Refer call name)) ≡ Ok (record { part = part; state = state_of machine.new })) }
-    ensures fault { IfErr result (λ f. on_ok (counted source.now at (state_of machine.old)) (argued outer.now end end closed (Then.Refer call name)) ≡ Err (stopped f (state_of machine.new))) }
+    ensures ok { OnOk result (on_ok (counted source.now at (state_of machine.old)) (argued outer.now end end closed (Then.Refer call.now name)) ≡ Ok (record { part = inner.new; state = state_of machine.new })) }
+    ensures fault { IfErr result (λ f. on_ok (counted source.now at (state_of machine.old)) (argued outer.now end end closed (Then.Refer call.now name)) ≡ Err (stopped f (state_of machine.new))) }
     ensures more { OnOk result (machine.old.taken ≤ machine.new.taken) }
     ensures within { OnOk result (machine.new.taken ≤ 16777216) }
+    ensures said { machine.new.messages.items ≡ machine.old.messages.items }
 {
     machine.count(source, at)?;
-    Ok(argued(
+    argued(
         outer,
         end,
         end,
         closed,
         machine.given(),
-        Then::Refer(call, name),
-    ))
+        Then::Refer(*call, name),
+        inner,
+    );
+    Ok(())
 }
 
 fn word_argued(
     source: &Written,
     machine: &mut Machine,
     outer: &Part,
-    call: Call,
+    call: &Call,
     at: usize,
     end: usize,
     closed: bool,
-) -> Result<Part, Stop>
+    inner: &mut Part,
+) -> Result<(), Stop>
     requires place { at < 2 ^ 33 }
     requires taken { machine.old.taken ≤ 16777216 }
-    ensures ok { IfOk result (λ part. word_argued (slice_get source.now.marks at) source.now outer.now call at end closed (state_of machine.old) ≡ Ok (record { part = part; state = state_of machine.new })) }
-    ensures fault { IfErr result (λ f. word_argued (slice_get source.now.marks at) source.now outer.now call at end closed (state_of machine.old) ≡ Err (stopped f (state_of machine.new))) }
+    ensures ok { OnOk result (word_argued (slice_get source.now.marks at) source.now outer.now call.now at end closed (state_of machine.old) ≡ Ok (record { part = inner.new; state = state_of machine.new })) }
+    ensures fault { IfErr result (λ f. word_argued (slice_get source.now.marks at) source.now outer.now call.now at end closed (state_of machine.old) ≡ Err (stopped f (state_of machine.new))) }
     ensures more { OnOk result (machine.old.taken ≤ machine.new.taken) }
     ensures within { OnOk result (machine.new.taken ≤ 16777216) }
+    ensures said { machine.new.messages.items ≡ machine.old.messages.items }
 {
     match source.mark(at) {
         Some(Mark::Name(name)) => {
             if at + 1 == end {
-                refer(source, machine, outer, call, name, at, end, closed)
+                refer(source, machine, outer, call, name, at, end, closed, inner)
             } else {
-                Ok(list_argued(source, machine, outer, call, at, end, closed))
+                list_argued(source, machine, outer, call, at, end, closed, inner);
+                Ok(())
             }
         }
-        Some(Mark::Known(_)) => Ok(list_argued(source, machine, outer, call, at, end, closed)),
-        Some(Mark::Sign(_)) => Ok(list_argued(source, machine, outer, call, at, end, closed)),
-        Some(Mark::Number) => Ok(list_argued(source, machine, outer, call, at, end, closed)),
-        Some(Mark::Text) => Ok(list_argued(source, machine, outer, call, at, end, closed)),
-        None => Ok(list_argued(source, machine, outer, call, at, end, closed)),
+        Some(Mark::Known(_)) => {
+            list_argued(source, machine, outer, call, at, end, closed, inner);
+            Ok(())
+        },
+        Some(Mark::Sign(_)) => {
+            list_argued(source, machine, outer, call, at, end, closed, inner);
+            Ok(())
+        },
+        Some(Mark::Number) => {
+            list_argued(source, machine, outer, call, at, end, closed, inner);
+            Ok(())
+        },
+        Some(Mark::Text) => {
+            list_argued(source, machine, outer, call, at, end, closed, inner);
+            Ok(())
+        },
+        None => {
+            list_argued(source, machine, outer, call, at, end, closed, inner);
+            Ok(())
+        },
     }
 }
 
@@ -389,46 +513,52 @@ pub fn argument(
     source: &Written,
     machine: &mut Machine,
     outer: &Part,
-    call: Call,
+    call: &Call,
     at: usize,
-) -> Result<Part, Stop>
+    inner: &mut Part,
+) -> Result<(), Stop>
     requires place { at < 2 ^ 33 }
     requires taken { machine.old.taken ≤ 16777216 }
-    ensures ok { IfOk result (λ part. argument source.now outer.now call at (state_of machine.old) ≡ Ok (record { part = part; state = state_of machine.new })) }
-    ensures fault { IfErr result (λ f. argument source.now outer.now call at (state_of machine.old) ≡ Err (stopped f (state_of machine.new))) }
+    ensures ok { OnOk result (argument source.now outer.now call.now at (state_of machine.old) ≡ Ok (record { part = inner.new; state = state_of machine.new })) }
+    ensures fault { IfErr result (λ f. argument source.now outer.now call.now at (state_of machine.old) ≡ Err (stopped f (state_of machine.new))) }
     ensures more { OnOk result (machine.old.taken ≤ machine.new.taken) }
     ensures within { OnOk result (machine.new.taken ≤ 16777216) }
+    ensures said { machine.new.messages.items ≡ machine.old.messages.items }
 {
     let end = piece(source, at, call.close).end;
     let closed = is_piece_closed(source, at, call.close, call.closed);
-    word_argued(source, machine, outer, call, at, end, closed)
+    word_argued(source, machine, outer, call, at, end, closed, inner)
 }
 
 fn first_argument(
     source: &Written,
     machine: &mut Machine,
     outer: &Part,
-    call: Call,
+    call: &Call,
     at: usize,
-) -> Result<Part, Stop>
+    inner: &mut Part,
+) -> Result<(), Stop>
     requires place { at < 2 ^ 33 }
     requires taken { machine.old.taken ≤ 16777216 }
-    ensures ok { IfOk result (λ part. first_argument source.now outer.now call at (state_of machine.old) ≡ Ok (record { part = part; state = state_of machine.new })) }
-    ensures fault { IfErr result (λ f. first_argument source.now outer.now call at (state_of machine.old) ≡ Err (stopped f (state_of machine.new))) }
+    ensures ok { OnOk result (first_argument source.now outer.now call.now at (state_of machine.old) ≡ Ok (record { part = inner.new; state = state_of machine.new })) }
+    ensures fault { IfErr result (λ f. first_argument source.now outer.now call.now at (state_of machine.old) ≡ Err (stopped f (state_of machine.new))) }
     ensures more { OnOk result (machine.old.taken ≤ machine.new.taken) }
     ensures within { OnOk result (machine.new.taken ≤ 16777216) }
+    ensures said { machine.new.messages.items ≡ machine.old.messages.items }
 {
     if at == call.close {
-        Ok(argued(
+        argued(
             outer,
             at,
             at,
             call.closed,
             machine.given(),
-            Then::Enter(call),
-        ))
+            Then::Enter(*call),
+            inner,
+        );
+        Ok(())
     } else {
-        argument(source, machine, outer, call, at)
+        argument(source, machine, outer, call, at, inner)
     }
 }
 
@@ -475,6 +605,7 @@ fn calling(part: &Part, inside: u32) -> Part
 fn wait(machine: &mut Machine) -> Result<(), Stop>
     ensures ok { OnOk result (state_of machine.new ≡ record (state_of machine.old) { waiting = entered machine.old.waiting }) }
     ensures fault { IfErr result (λ f. f ≡ NoMemory) }
+    ensures said { machine.new.messages.items ≡ machine.old.messages.items }
 {
     if machine.waiting.enter().is_err() {
         return Err(Stop::NoMemory);
@@ -489,13 +620,15 @@ fn begin_call(
     part: &Part,
     at: usize,
     called: Macro,
-) -> Result<Action, Stop>
+    inner: &mut Part,
+) -> Result<Lead, Stop>
     requires place { at < 2 ^ 24 }
     requires taken { machine.old.taken ≤ 16777216 }
-    ensures ok { IfOk result (λ action. begun_call source.now part.now at called (state_of machine.old) ≡ Ok (begun action (state_of machine.new))) }
+    ensures ok { IfOk result (λ action. begun_call source.now part.now at called (state_of machine.old) ≡ Ok (begun (action_of action inner.new) (state_of machine.new))) }
     ensures fault { IfErr result (λ f. f ≢ NoMemory → begun_call source.now part.now at called (state_of machine.old) ≡ Err (stopped f (state_of machine.new))) }
     ensures more { OnOk result (machine.old.taken ≤ machine.new.taken) }
     ensures within { OnOk result (machine.new.taken ≤ 16777216) }
+    ensures said { machine.new.messages.items ≡ machine.old.messages.items }
 {
     let inside = machine.deeper(source, at, part.depth)?;
     if is_misfit(source, called, at, part.end) {
@@ -505,14 +638,12 @@ fn begin_call(
     wait(machine)?;
     let call = call_of(source, called, at + 2, part.end);
     let outer = calling(part, inside);
-    let first = first_argument(source, machine, &outer, call, at + 2)?;
-    Ok(Action::Open {
-        part: first,
-        behind: call.close + 1,
-    })
+    first_argument(source, machine, &outer, &call, at + 2, inner)?;
+    Ok(Lead::Open(call.close + 1))
 }
 
 /// A name is handed out, or what it is bound to.
+#[inline(always)]
 pub fn begin_name(
     alloc: Global,
     source: &Written,
@@ -520,43 +651,71 @@ pub fn begin_name(
     part: &Part,
     name: usize,
     at: usize,
-) -> Result<Action, Stop>
+    inner: &mut Part,
+) -> Result<Lead, Stop>
     requires place { at < 2 ^ 24 }
     requires taken { machine.old.taken ≤ 16777216 }
-    ensures ok { IfOk result (λ action. begun_bound (found machine.old.scopes name) source.now part.now at (slice_get source.now.tokens at) (state_of machine.old) ≡ Ok (begun action (state_of machine.new))) }
+    ensures ok { IfOk result (λ action. begun_bound (found machine.old.scopes name) source.now part.now at (slice_get source.now.tokens at) (state_of machine.old) ≡ Ok (begun (action_of action inner.new) (state_of machine.new))) }
     ensures fault { IfErr result (λ f. f ≢ NoMemory → begun_bound (found machine.old.scopes name) source.now part.now at (slice_get source.now.tokens at) (state_of machine.old) ≡ Err (stopped f (state_of machine.new))) }
     ensures more { OnOk result (machine.old.taken ≤ machine.new.taken) }
     ensures within { OnOk result (machine.new.taken ≤ 16777216) }
+    ensures said { machine.new.messages.items ≡ machine.old.messages.items }
 {
     match machine.scopes.find(name) {
         Some(Binding::Value(Value::Float(value))) => {
             let value = *value;
-            begin_number(alloc, source, machine, part, value, at)
+            begin_number(alloc, source, machine, part, value, at, inner)
         }
+        Some(_) => begin_bound(alloc, source, machine, part, name, at, inner),
+        None => hand_out(alloc, source, machine, part, at, inner),
+    }
+}
+
+/// A name that isn't one of a number.
+#[inline(never)]
+fn begin_bound(
+    alloc: Global,
+    source: &Written,
+    machine: &mut Machine,
+    part: &Part,
+    name: usize,
+    at: usize,
+    inner: &mut Part,
+) -> Result<Lead, Stop>
+    requires place { at < 2 ^ 24 }
+    requires taken { machine.old.taken ≤ 16777216 }
+    ensures ok { IfOk result (λ action. begun_bound (found machine.old.scopes name) source.now part.now at (slice_get source.now.tokens at) (state_of machine.old) ≡ Ok (begun (action_of action inner.new) (state_of machine.new))) }
+    ensures fault { IfErr result (λ f. f ≢ NoMemory → begun_bound (found machine.old.scopes name) source.now part.now at (slice_get source.now.tokens at) (state_of machine.old) ≡ Err (stopped f (state_of machine.new))) }
+    ensures more { OnOk result (machine.old.taken ≤ machine.new.taken) }
+    ensures within { OnOk result (machine.new.taken ≤ 16777216) }
+    ensures said { machine.new.messages.items ≡ machine.old.messages.items }
+{
+    match machine.scopes.find(name) {
         Some(Binding::Value(value)) => match source.token(at) {
             Some(token) => match value_tokens(alloc, token, value) {
-                Ok(tokens) => substitute(machine, part, token, tokens, at + 1),
+                Ok(tokens) => substitute(machine, part, token, tokens, at + 1, inner),
                 Err(_) => Err(Stop::NoMemory),
             },
-            None => hand_out(alloc, source, machine, part, at),
+            None => hand_out(alloc, source, machine, part, at, inner),
         },
         Some(Binding::Block(block)) => match source.token(at) {
             Some(token) => match block_tokens(alloc, token, block.tokens()) {
-                Ok(tokens) => substitute(machine, part, token, tokens, at + 1),
+                Ok(tokens) => substitute(machine, part, token, tokens, at + 1, inner),
                 Err(_) => Err(Stop::NoMemory),
             },
-            None => hand_out(alloc, source, machine, part, at),
+            None => hand_out(alloc, source, machine, part, at, inner),
         },
         Some(Binding::Macro(called)) => {
             let called = *called;
-            begin_call(source, machine, part, at, called)
+            begin_call(source, machine, part, at, called, inner)
         }
-        Some(Binding::Reference(_)) => hand_out(alloc, source, machine, part, at),
-        None => hand_out(alloc, source, machine, part, at),
+        Some(Binding::Reference(_)) => hand_out(alloc, source, machine, part, at, inner),
+        None => hand_out(alloc, source, machine, part, at, inner),
     }
 }
 
 /// A name of a number.
+#[inline(always)]
 fn begin_number(
     alloc: Global,
     source: &Written,
@@ -564,16 +723,18 @@ fn begin_number(
     part: &Part,
     value: Fix,
     at: usize,
-) -> Result<Action, Stop>
+    inner: &mut Part,
+) -> Result<Lead, Stop>
     requires place { at < 2 ^ 24 }
     requires taken { machine.old.taken ≤ 16777216 }
-    ensures ok { IfOk result (λ action. begun_bound (Some (Binding.Value (Value.Float value))) source.now part.now at (slice_get source.now.tokens at) (state_of machine.old) ≡ Ok (begun action (state_of machine.new))) }
+    ensures ok { IfOk result (λ action. begun_bound (Some (Binding.Value (Value.Float value))) source.now part.now at (slice_get source.now.tokens at) (state_of machine.old) ≡ Ok (begun (action_of action inner.new) (state_of machine.new))) }
     ensures fault { IfErr result (λ f. f ≢ NoMemory → begun_bound (Some (Binding.Value (Value.Float value))) source.now part.now at (slice_get source.now.tokens at) (state_of machine.old) ≡ Err (stopped f (state_of machine.new))) }
     ensures more { OnOk result (machine.old.taken ≤ machine.new.taken) }
     ensures within { OnOk result (machine.new.taken ≤ 16777216) }
+    ensures said { machine.new.messages.items ≡ machine.old.messages.items }
 {
     match source.token(at) {
-        Some(token) => substitute_number(machine, part, token, value, at + 1),
-        None => hand_out(alloc, source, machine, part, at),
+        Some(token) => substitute_number(machine, part, token, value, at + 1, inner),
+        None => hand_out(alloc, source, machine, part, at, inner),
     }
 }
