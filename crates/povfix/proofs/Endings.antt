@@ -1,15 +1,21 @@
 -- How each step ends a frame, and how the report of it ends it.
-use Rattle.std.specs.Prelude.{IsSomeAnd, MatchOption, option_copied, option_map}
-use Rattle.std.proofs.Common.{◌≡◌, ◌≢◌, ◌⊎◌, ◌≤◌, ℕ, Bor, List, [], ◌++◌, inl, inr, refl, sym, ap, ◌∙◌, subst, Option, Some, None, Ok, Err}
+use Rattle.std.specs.Prelude.{IsSomeAnd, MatchOption, Result, option_copied, option_map, sum}
+use Rattle.std.specs.Result.{IfErr, IsErrAnd}
+use Rattle.std.proofs.Common.{◌≡◌, ◌≢◌, ◌⊎◌, ◌≤◌, ℕ, Bor, List, [], ◌++◌, inl, inr, refl, sym, ap, ◌∙◌, subst, ◌∷◌, Option, Some, None, Ok, Err}
 use Rattle.std.proofs.lemmas.List.{append-nil, append_assoc}
 use Rattle.scene_lexer.specs.declared.token.LexFault.{LexFault}
+use Rattle.scene_lexer.specs.declared.token.Token.{Token}
 use Rattle.scene_expr.specs.declared.value.ExprFault.{ExprFault}
 use Rattle.scene_expr.specs.declared.value.Settings.{Settings}
-use Rattle.image_out.specs.Files.{file_of}
 use Rattle.shelf.specs.declared.disk.HoldFail.{HoldFail}
 use Rattle.shelf.specs.Causes.{Rose}
 use Rattle.shelf.specs.Disk.{Contents, SameContents}
 use Rattle.shelf.specs.Stream.{with_bytes, GrewByLess}
+use Rattle.scene_model.specs.declared.scene.Scene.{Scene}
+use Rattle.scene_model.specs.declared.scene.Sheet.{Sheet}
+use Rattle.item_blocks.specs.declared.fault.ParseFault.{ParseFault}
+use Rattle.scene_parser.specs.Seen.{SceneView, scene_seen}
+use Rattle.frame_trace.specs.Pictures.{IsPicture}
 use Rattle.directive_machine.specs.declared.texts.Text.{Text}
 use Rattle.directive_machine.specs.declared.stop.Stop.{Stop}
 use Rattle.directive_machine.specs.Course.{Halted}
@@ -21,14 +27,11 @@ use Rattle.povfix.specs.declared.ending.Report.{Report}
 use Rattle.povfix.specs.declared.expansion.Expansion.{Expansion}
 use Rattle.povfix.specs.declared.outcome.Fault.{Fault}
 use Rattle.povfix.specs.declared.outcome.Fault.TheVariants.{Done, OptionFault, SceneFault, Limit, Absent, TextFault, ShelfFault, MessageFault, NoMemory}
-use Rattle.povfix.specs.declared.refusal.Refusal.{Refusal}
-use Rattle.povfix.specs.Conversions.{error_text, hold_fault, parse_fault, stop_fault}
-use Rattle.povfix.specs.Frames.{Frame, frame_of, generated_for, IsExpanded, IsMeaning, IsStopped}
-use Rattle.povfix.specs.Grammar.{IsScene}
+use Rattle.povfix.specs.Conversions.{error_text, hold_fault, stop_fault}
+use Rattle.povfix.specs.Frames.{Frame, filed, format_of, frame_of, generated_for, sight_of, IsExpanded, IsMeaning, IsStopped, Shows}
 use Rattle.povfix.specs.Lines.{line_left, line_of, messages_left, name_under, text_number, IsPlaced, Says}
-use Rattle.povfix.specs.Picture.{IsPicture, Shows, pixel_shows}
 use Rattle.povfix.specs.Said.{IsFrameSaid}
-use Rattle.povfix.specs.Scenes.{Scene}
+use Rattle.povfix.specs.Scenes.{drawable, sheets_fault, without_sheets, IsRead}
 use Rattle.povfix.specs.Steps.{IsCarried, IsCut, IsEnd, IsLeft, IsUnparsed}
 use Rattle.povfix.specs.Verdict.{FrameVerdict, done}
 use Rattle.povfix.proofs.Saying.{rose_to, says_behind, says_nothing, says_same, with_nothing}
@@ -55,6 +58,11 @@ given_text items None lent Q shows is = ap option_copied is
 given_text items (Some v) None Q shows is = absurd is
 given_text items (Some v) (Some y) Q shows is = ap (λ b. Some b) (shows v y is)
 
+-- what holds of a fault holds at the exit of a `?`
+pub exit : {T E : Type 0} → (Q : E → Type 0) (y : E) (r : Result T E) → IsErrAnd r (λ x. x ≡ y) → Q y → IfErr r Q
+exit Q y (Ok t) is q = absurd is
+exit Q y (Err x) is q = subst Q (sym is) q
+
 -- ---- before the report
 
 -- a fault of words and texts alone
@@ -70,7 +78,7 @@ module _ (frame : Frame) (told : Option (List Text)) (tb tn shelf kb kn : ℕ) (
 
   -- what is written, and what is left to say, is what the frame comes to
   abbrev Told : Fault → Option Report → Type 0
-  Told fault report = (texts : List Text) → told ≡ Some texts → (messages : List ℕ) × (now ≡ with_bytes before messages) × FrameVerdict frame texts (record { fault = fault; messages = messages ++ messages_left report; line = line_left report fault })
+  Told fault report = (texts : List Text) → told ≡ Some texts → (messages : List ℕ) × (now ≡ with_bytes before messages) × FrameVerdict frame texts (record { fault = fault; messages = messages ++ messages_left report; total = 0; line = line_left report fault })
 
   refused_cut : (fault : Fault) (report : Option Report) → IsRefusal fault → Told fault report → Cut (record { fault = fault; report = report })
   refused_cut (SceneFault letter kind place) report refusal left = record { ends = tt; left = left; text_fault = λ e. cc; shelf_fault = λ e. cc; message_fault = λ e. cc }
@@ -106,33 +114,64 @@ module _ (frame : Frame) (told : Option (List Text)) (tb tn shelf kb kn : ℕ) (
   unwritten_cut ending is part rose = subst Cut (sym is) (unwritten part rose)
 
 -- the items of a frame are refused
+with_sheets : (sheets : List Sheet) (scene : SceneView) (fault : Fault) → Err fault ≡ without_sheets sheets scene → IsRefusal fault
+with_sheets [] scene fault is = absurd (cc is)
+with_sheets (sheet ∷ sheets) scene fault is = let same : fault ≡ sheets_fault = cc is in subst IsRefusal (sym same) tt
+
+undrawn : (parsed : Result SceneView ParseFault) (fault : Fault) → Err fault ≡ drawable parsed → fault ≢ NoMemory → IsRefusal fault
+undrawn (Ok scene) fault is other = with_sheets scene.sheets scene fault is
+undrawn (Err (ParseFault.Expected place kind)) fault is other = let same : fault ≡ SceneFault 80 1 place = cc is in subst IsRefusal (sym same) tt
+undrawn (Err (ParseFault.OutOfProfile place word)) fault is other = let same : fault ≡ SceneFault 80 2 place = cc is in subst IsRefusal (sym same) tt
+undrawn (Err (ParseFault.ValueRange place)) fault is other = let same : fault ≡ SceneFault 80 3 place = cc is in subst IsRefusal (sym same) tt
+undrawn (Err (ParseFault.Xform place step)) fault is other = let same : fault ≡ SceneFault 80 4 place = cc is in subst IsRefusal (sym same) tt
+undrawn (Err (ParseFault.Limit which place)) fault is other = let same : fault ≡ Limit which place = cc is in subst IsRefusal (sym same) tt
+undrawn (Err ParseFault.NoMemory) fault is other = absurd (other (cc is))
+
 module _ (frame : Frame) (told : Option (List Text)) (tb tn shelf kb kn : ℕ) (before now : Option (List ℕ)) (found : Expansion) (carried : (texts : List Text) → told ≡ Some texts → IsCarried frame texts before now found) (report : Option Report) (none : messages_left report ≡ []) where
   abbrev IsLine : Fault → Type 0
   IsLine fault = line_left report fault ≡ line_of (name_under found.names.items (text_number fault)) [] fault
 
-  told_by : (refusal : Refusal) → IsScene found.flat.tokens.items frame.settings (Err refusal) → IsLine (parse_fault refusal) → Told frame told tb tn shelf kb kn before now (parse_fault refusal) report
-  told_by refusal parsed line texts held =
+  abbrev Reads : Fault → Type 0
+  Reads fault = IsRead found.flat.tokens.items frame.settings (Err fault)
+
+  told_by : (fault : Fault) → Reads fault → IsLine fault → Told frame told tb tn shelf kb kn before now fault report
+  told_by fault read line texts held =
       let here = carried texts held in
-      let comes = FrameVerdict.no_scene _ refusal here.expanded parsed in
+      let comes = FrameVerdict.no_scene _ fault here.expanded read in
       let messages : here.messages ≡ here.messages ++ messages_left report = sym (ap (λ more. here.messages ++ more) none ∙ append-nil here.messages) in (
         here.messages,
         here.written,
-        subst (λ m. FrameVerdict frame texts (record { fault = parse_fault refusal; messages = m; line = line_left report (parse_fault refusal) })) messages
-            (subst (λ l. FrameVerdict frame texts (record { fault = parse_fault refusal; messages = here.messages; line = l })) (sym line) comes),
+        subst (λ m. FrameVerdict frame texts (record { fault = fault; messages = m; total = 0; line = line_left report fault })) messages
+            (subst (λ l. FrameVerdict frame texts (record { fault = fault; messages = here.messages; total = 0; line = l })) (sym line) comes),
       )
 
-  cut_of : (refusal : Refusal) → (refusal ≢ Refusal.NoMemory → IsScene found.flat.tokens.items frame.settings (Err refusal)) → IsLine (parse_fault refusal) → IsCut frame told tb tn shelf shelf kb kn before now (record { fault = parse_fault refusal; report = report })
-  cut_of (Refusal.Expected kind place) parsed line = refused_cut frame told tb tn shelf kb kn before now _ report tt (told_by (Refusal.Expected kind place) (parsed (λ e. cc)) line)
-  cut_of (Refusal.OutOfProfile place) parsed line = refused_cut frame told tb tn shelf kb kn before now _ report tt (told_by (Refusal.OutOfProfile place) (parsed (λ e. cc)) line)
-  cut_of (Refusal.ValueRange place) parsed line = refused_cut frame told tb tn shelf kb kn before now _ report tt (told_by (Refusal.ValueRange place) (parsed (λ e. cc)) line)
-  cut_of Refusal.NoMemory parsed line = no_memory_cut frame told tb tn shelf kb kn before now report (λ texts held. ((carried texts held).messages, (carried texts held).written))
+  read_cut : (fault : Fault) → IsRefusal fault → Reads fault → IsLine fault → IsCut frame told tb tn shelf shelf kb kn before now (record { fault = fault; report = report })
+  read_cut fault refusal read line = refused_cut frame told tb tn shelf kb kn before now fault report refusal (told_by fault read line)
 
-  cut_by : (fault : Fault) (refusal : Refusal) → fault ≡ parse_fault refusal → (refusal ≢ Refusal.NoMemory → IsScene found.flat.tokens.items frame.settings (Err refusal)) → IsLine fault → IsCut frame told tb tn shelf shelf kb kn before now (record { fault = fault; report = report })
-  cut_by fault refusal is parsed line =
-      subst (λ f. IsCut frame told tb tn shelf shelf kb kn before now (record { fault = f; report = report })) (sym is) (cut_of refusal parsed (subst IsLine is line))
+  never : (fault : Fault) → fault ≢ NoMemory → Reads fault → IsRefusal fault
+  never fault other read = undrawn read.parsed fault read.drawn other
+
+  cut_of : (fault : Fault) → (fault ≢ NoMemory → Reads fault) → IsLine fault → IsCut frame told tb tn shelf shelf kb kn before now (record { fault = fault; report = report })
+  cut_of (SceneFault letter kind place) read line = read_cut (SceneFault letter kind place) tt (read (λ e. cc)) line
+  cut_of (Limit which place) read line = read_cut (Limit which place) tt (read (λ e. cc)) line
+  cut_of (Absent name) read line = read_cut (Absent name) tt (read (λ e. cc)) line
+  cut_of Done read line = absurd (never Done (λ e. cc) (read (λ e. cc)))
+  cut_of (OptionFault kind place) read line = absurd (never (OptionFault kind place) (λ e. cc) (read (λ e. cc)))
+  cut_of TextFault read line = absurd (never TextFault (λ e. cc) (read (λ e. cc)))
+  cut_of ShelfFault read line = absurd (never ShelfFault (λ e. cc) (read (λ e. cc)))
+  cut_of MessageFault read line = absurd (never MessageFault (λ e. cc) (read (λ e. cc)))
+  cut_of NoMemory read line = no_memory_cut frame told tb tn shelf kb kn before now report (λ texts held. ((carried texts held).messages, (carried texts held).written))
+
+-- what is left to say of such a fault is its line
+pub unread : (set set' : Settings) (tokens : List Token) (found : Expansion) (fault : Fault) (ending : Ending) (report : Report) → tokens ≡ found.flat.tokens.items → set' ≡ set → ending ≡ record { fault = fault; report = Some report } → report.messages.items ≡ [] → report.name ≡ name_under found.names.items (text_number fault) → report.text ≡ [] → (fault ≢ NoMemory → IsRead tokens set' (Err fault)) → IsUnparsed set found ending
+unread set set' tokens found fault ending report is_tokens is_set is none name text read = subst (IsUnparsed set found) (sym is) (record {
+  read = λ other. subst (λ t. IsRead t set (Err fault)) is_tokens (subst (λ s. IsRead tokens s (Err fault)) is_set (read other));
+  messages = none;
+  line = ap (λ n. line_of n report.text fault) name ∙ ap (λ t. line_of (name_under found.names.items (text_number fault)) t fault) text;
+})
 
 pub unparsed_cut : (frame : Frame) (told : Option (List Text)) (tb tn shelf kb kn : ℕ) (before now : Option (List ℕ)) (found : Expansion) (ending : Ending) → ((texts : List Text) → told ≡ Some texts → IsCarried frame texts before now found) → IsUnparsed frame.settings found ending → IsCut frame told tb tn shelf shelf kb kn before now ending
-unparsed_cut frame told tb tn shelf kb kn before now found ending carried un = cut_by frame told tb tn shelf kb kn before now found carried ending.report un.messages ending.fault un.refusal un.answer un.parsed un.line
+unparsed_cut frame told tb tn shelf kb kn before now found ending carried un = cut_of frame told tb tn shelf kb kn before now found carried ending.report un.messages ending.fault un.read un.line
 
 -- the directives of a frame stop; nothing is written yet
 module _ (frame : Frame) (told : Option (List Text)) (tb tn shelf kb kn : ℕ) (before : Option (List ℕ)) (names : List (List ℕ)) (one : Report) where
@@ -170,29 +209,37 @@ module _ (frame : Frame) (told : Option (List Text)) (tb tn shelf kb kn : ℕ) (
 
 -- ---- a frame that is drawn
 
-module _ (frame : Frame) (texts : List Text) (before now : Option (List ℕ)) (found : Expansion) (scene : Scene) (picture file : List ℕ) (carried : IsCarried frame texts before now found) (parsed : IsScene found.flat.tokens.items frame.settings (Ok scene)) (shown : IsPicture (pixel_shows (Shows scene) frame.width frame.height) frame.width frame.height frame.bits picture) (filed : file ≡ file_of frame.sort frame.width frame.height frame.bits picture) where
-  pub drawn_verdict : (messages : List ℕ) × FrameVerdict frame texts (done messages) × (now ≡ with_bytes before messages)
-  drawn_verdict = (carried.messages, FrameVerdict.drawn _ scene file carried.expanded parsed (record { picture = picture; shown = shown; filed = filed }), carried.written)
+module _ (frame : Frame) (texts : List Text) (before now : Option (List ℕ)) (found : Expansion) (scene : Scene) (picture : List ℕ) (carried : IsCarried frame texts before now found) (read : IsRead found.flat.tokens.items frame.settings (Ok (scene_seen scene))) (shown : IsPicture (sight_of scene (format_of frame.width frame.height frame.bits frame.antialias)) picture) where
+  shows : Shows frame (scene_seen scene) picture
+  shows = record { scene = scene; same = refl; shown = shown }
 
-  pub drawn_meaning : IsMeaning frame texts file
-  drawn_meaning = record {
-    scene = scene;
-    meant = record { found = _; expanded = carried.expanded; parsed = parsed };
-    drawn = record { picture = picture; shown = shown; filed = filed };
+  pub drawn_said : (total : ℕ) → total ≡ sum picture → (messages : List ℕ) × FrameVerdict frame texts (done messages total) × (now ≡ with_bytes before messages)
+  drawn_said total is = (carried.messages, subst (λ t. FrameVerdict frame texts (done carried.messages t)) (sym is) (FrameVerdict.drawn _ (scene_seen scene) picture carried.expanded read shows), carried.written)
+
+  pub drawn_meaning : (file : List ℕ) → file ≡ filed frame picture → IsMeaning frame texts file
+  drawn_meaning file is = record {
+    scene = scene_seen scene;
+    meant = record { found = _; expanded = carried.expanded; read = read };
+    picture = picture;
+    shown = shows;
+    is = is;
   }
 
+  pub drawn_verdict : (messages : List ℕ) × (total : ℕ) × FrameVerdict frame texts (done messages total) × (now ≡ with_bytes before messages)
+  drawn_verdict = let said = drawn_said (sum picture) refl in (said.0, sum picture, said.1, said.2)
+
 -- a storage that fails, or has no memory for the file
-pub stored_cut : (frame : Frame) (told : Option (List Text)) (tb tn sb sn kb kn : ℕ) (before now : Option (List ℕ)) (fail : HoldFail) → ((texts : List Text) → told ≡ Some texts → (messages : List ℕ) × FrameVerdict frame texts (done messages) × (now ≡ with_bytes before messages)) → (fail ≡ HoldFail.Failed → Rose sb sn) → IsCut frame told tb tn sb sn kb kn before now (record { fault = hold_fault fail; report = None })
+pub stored_cut : (frame : Frame) (told : Option (List Text)) (tb tn sb sn kb kn : ℕ) (before now : Option (List ℕ)) (fail : HoldFail) → ((texts : List Text) → told ≡ Some texts → (messages : List ℕ) × (total : ℕ) × FrameVerdict frame texts (done messages total) × (now ≡ with_bytes before messages)) → (fail ≡ HoldFail.Failed → Rose sb sn) → IsCut frame told tb tn sb sn kb kn before now (record { fault = hold_fault fail; report = None })
 stored_cut frame told tb tn sb sn kb kn before now HoldFail.Failed verdict rose = record {
   ends = tt;
-  left = λ texts held. let drawn = verdict texts held in (drawn.0, drawn.1, drawn.2, refl);
+  left = λ texts held. let drawn = verdict texts held in (drawn.0, drawn.1, drawn.2, drawn.3, refl);
   text_fault = λ e. cc;
   shelf_fault = λ e. rose refl;
   message_fault = λ e. cc;
 }
 stored_cut frame told tb tn sb sn kb kn before now HoldFail.NoMemory verdict rose = record {
   ends = tt;
-  left = λ texts held. let drawn = verdict texts held in (drawn.0, drawn.2);
+  left = λ texts held. let drawn = verdict texts held in (drawn.0, drawn.3);
   text_fault = λ e. cc;
   shelf_fault = λ e. cc;
   message_fault = λ e. cc;
@@ -243,8 +290,9 @@ module _ (frame : Frame) (texts : List Text) (before mid now : Option (List ℕ)
   said_of ShelfFault report left says = (
     left.0,
     left.1,
+    left.2,
     subst (λ l. Says before now kb kn (left.0 ++ l)) (shelf_left report)
-        (says_behind before mid now kb km kn left.0 (line_left report ShelfFault) left.2 later (subst (λ m. Says mid now km kn (m ++ line_left report ShelfFault)) left.3 says)),
+        (says_behind before mid now kb km kn left.0 (line_left report ShelfFault) left.3 later (subst (λ m. Says mid now km kn (m ++ line_left report ShelfFault)) left.4 says)),
   )
   said_of MessageFault report left says =
       let still : now ≡ mid = says_nothing mid now km kn (messages_left report ++ line_left report MessageFault) (ap (λ m. m ++ line_left report MessageFault) left.3 ∙ line_without report) says in

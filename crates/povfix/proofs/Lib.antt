@@ -1,13 +1,11 @@
-pub mod Lists
-pub mod Items
-pub mod OneScene
 pub mod Storing
 pub mod Saying
 pub mod Reports
 pub mod Endings
-pub mod Plans
 pub mod Courses
 pub mod OneFrame
 pub mod Verdicts
-pub mod Pictures
+pub mod Summaries
+pub mod Alike
+pub mod Formats
 pub mod OneMeaning

@@ -4,11 +4,11 @@ use Rattle.scene_lexer.specs.declared.token.LexFault.{LexFault}
 use Rattle.scene_lexer.specs.declared.token.LexFault.TheVariants.{BadByte, OpenComment, OpenString, LongName, NumberRange}
 use Rattle.scene_expr.specs.declared.value.ExprFault.{ExprFault}
 use Rattle.directive_machine.specs.declared.stop.Stop.{Stop}
+use Rattle.item_blocks.specs.declared.fault.ParseFault.{ParseFault}
 use Rattle.shelf.specs.declared.disk.HoldFail.{HoldFail}
 use Rattle.options.specs.declared.fault.OptionFault.{OptionFault as OptionRefusal}
 use Rattle.povfix.specs.declared.outcome.Fault.{Fault}
 use Rattle.povfix.specs.declared.outcome.Fault.TheVariants.{Done, OptionFault, SceneFault, Limit, Absent, TextFault, ShelfFault, MessageFault, NoMemory}
-use Rattle.povfix.specs.declared.refusal.Refusal.{Refusal}
 
 -- a refusal of the options, by its kind
 abbrev pub option_fault : OptionRefusal → Fault
@@ -57,11 +57,13 @@ error_text (Stop.UserError text place) = text
 error_text stop = []
 
 -- a fault of the items, under the letter P
-abbrev pub parse_fault : Refusal → Fault
-parse_fault (Refusal.Expected kind place) = SceneFault 80 1 place
-parse_fault (Refusal.OutOfProfile place) = SceneFault 80 2 place
-parse_fault (Refusal.ValueRange place) = SceneFault 80 3 place
-parse_fault Refusal.NoMemory = NoMemory
+abbrev pub parse_fault : ParseFault → Fault
+parse_fault (ParseFault.Expected place kind) = SceneFault 80 1 place
+parse_fault (ParseFault.OutOfProfile place word) = SceneFault 80 2 place
+parse_fault (ParseFault.ValueRange place) = SceneFault 80 3 place
+parse_fault (ParseFault.Xform place fault) = SceneFault 80 4 place
+parse_fault (ParseFault.Limit which place) = Limit which place
+parse_fault ParseFault.NoMemory = NoMemory
 
 -- a failing storage
 abbrev pub hold_fault : HoldFail → Fault

@@ -1,26 +1,31 @@
 -- What a frame asks for and means, and what the frames of a run leave in the storage.
-use Rattle.std.specs.Prelude.{ℕ, zero, suc, ◌+◌, ◌-◌, ◌==◌, ◌≤◌, ◌≡◌, ◌≢◌, if◌then◌else◌, List, [], ◌∷◌, length, Option, None, Some, Result, Ok, Err}
+use Rattle.std.specs.Prelude.{ℕ, zero, suc, ◌+◌, ◌-◌, ◌==◌, ◌≤◌, ◌≡◌, ◌≢◌, Bool, false, not, if◌then◌else◌, List, [], ◌∷◌, length, Option, None, Some, Result, Ok, Err}
 use Rattle.shelf.specs.Disk.{Contents}
 use Rattle.image_out.specs.declared.picture.Sort.{Sort}
 use Rattle.image_out.specs.Files.{file_of}
 use Rattle.scene_expr.specs.declared.value.Settings.{Settings}
+use Rattle.scene_model.specs.declared.scene.Scene.{Scene}
+use Rattle.scene_parser.specs.Seen.{SceneView, scene_seen}
+use Rattle.finish_shade.specs.Alike.{solids_of}
+use Rattle.frame_trace.specs.declared.format.Antialias.{Antialias as Smoothing}
+use Rattle.frame_trace.specs.declared.format.Format.{Format}
+use Rattle.frame_trace.specs.Pictures.{View, IsPicture}
 use Rattle.directive_machine.specs.declared.texts.Text.{Text}
 use Rattle.directive_machine.specs.Course.{Given, Halted, given}
 use Rattle.directive_machine.specs.Expansions.{Handed, ComesTo, StopsAt}
+use Rattle.options.specs.declared.plan.Antialias.{Antialias}
 use Rattle.options.specs.declared.plan.Plan.{Plan}
 use Rattle.options.specs.declared.fault.OptionFault.{OptionFault as Refusal}
 use Rattle.options.specs.Frames.{picture_name, settings_of}
 use Rattle.options.specs.Generated.{generated_text}
 use Rattle.povfix.specs.declared.outcome.Fault.{Fault}
-use Rattle.povfix.specs.declared.outcome.Fault.TheVariants.{Done, ShelfFault}
-use Rattle.povfix.specs.Grammar.{IsScene}
-use Rattle.povfix.specs.Picture.{IsPicture, Shows, pixel_shows}
-use Rattle.povfix.specs.Scenes.{Scene}
+use Rattle.povfix.specs.declared.outcome.Fault.TheVariants.{Done, ShelfFault, MessageFault, NoMemory}
+use Rattle.povfix.specs.Scenes.{IsRead}
 
 -- ---- one frame
 
 -- the name of its scene text, the balls of a generated one, where includes are searched for, the name of its picture file,
--- the picture's sides, its sort and the bits of a sample, and what it tells its expressions
+-- the picture's sides, its sort and the bits of a sample, how pixels are looked at again, and what it tells its expressions
 pub record Frame : Type 0 where
   pub input : List ℕ
   pub generate : ℕ
@@ -30,6 +35,7 @@ pub record Frame : Type 0 where
   pub height : ℕ
   pub sort : Sort
   pub bits : ℕ
+  pub antialias : Option Antialias
   pub settings : Settings
 
 -- a text of so many balls that is generated in place of one that is read
@@ -49,22 +55,39 @@ abbrev pub IsStopped : Frame → List Text → Halted → Type 0
 IsStopped frame texts halted = StopsAt (given_for frame texts) frame.input (generated_for frame.generate) halted
 
 -- the texts mean this scene
-pub record IsMeant (frame : Frame) (texts : List Text) (scene : Scene) : Type 0 where
+pub record IsMeant (frame : Frame) (texts : List Text) (scene : SceneView) : Type 0 where
   pub found : Handed
   pub expanded : IsExpanded frame texts found
-  pub parsed : IsScene found.tokens frame.settings (Ok scene)
+  pub read : IsRead found.tokens frame.settings (Ok scene)
 
--- the file of a scene's picture
-pub record IsDrawn (frame : Frame) (scene : Scene) (file : List ℕ) : Type 0 where
-  pub picture : List ℕ
-  pub shown : IsPicture (pixel_shows (Shows scene) frame.width frame.height) frame.width frame.height frame.bits picture
-  pub filed : file ≡ file_of frame.sort frame.width frame.height frame.bits picture
+abbrev pub smoothing : Option Antialias → Option Smoothing
+smoothing None = None
+smoothing (Some antialias) = Some (record { threshold = antialias.threshold; depth = antialias.depth })
+
+abbrev pub format_of : ℕ → ℕ → ℕ → Option Antialias → Format
+format_of width height bits antialias = record { width = width; height = height; bits = bits; antialias = smoothing antialias }
+
+-- what the picture of a scene is drawn of, and in what format: a scene that is drawn has solids alone
+abbrev pub sight_of : Scene → Format → View
+sight_of scene format = record { surfaces = solids_of scene; scene = scene; format = format }
+
+-- the picture of a scene that is seen so
+pub record Shows (frame : Frame) (seen : SceneView) (picture : List ℕ) : Type 0 where
+  pub scene : Scene
+  pub same : scene_seen scene ≡ seen
+  pub shown : IsPicture (sight_of scene (format_of frame.width frame.height frame.bits frame.antialias)) picture
+
+-- the file of a picture
+abbrev pub filed : Frame → List ℕ → List ℕ
+filed frame picture = file_of frame.sort frame.width frame.height frame.bits picture
 
 -- the picture file of a frame over these texts
 pub record IsMeaning (frame : Frame) (texts : List Text) (file : List ℕ) : Type 0 where
-  pub scene : Scene
+  pub scene : SceneView
   pub meant : IsMeant frame texts scene
-  pub drawn : IsDrawn frame scene file
+  pub picture : List ℕ
+  pub shown : Shows frame scene picture
+  pub is : file ≡ filed frame picture
 
 -- ---- the frames of a run
 
@@ -79,6 +102,7 @@ frame_of plan number = record {
   height = plan.height;
   sort = plan.sort;
   bits = plan.bits;
+  antialias = plan.antialias;
   settings = settings_of plan number;
 }
 
@@ -95,9 +119,20 @@ abbrev pub frames_in : Result Plan Refusal → List Frame
 frames_in (Ok plan) = frames_of plan
 frames_in (Err refusal) = []
 
--- the count of frames that are finished: all where all is done, else fewer where there are any
+-- frames of a generated scene have a summary
+abbrev pub is_summed : List Frame → Bool
+is_summed [] = false
+is_summed (frame ∷ frames) = not (frame.generate == 0)
+
+-- how many frames are finished, at most, where their messages or summary can't be written, or there is no memory for them
+abbrev pub before_summary : List Frame → ℕ
+before_summary frames = if is_summed frames then length frames else length frames - 1
+
+-- the count of frames that are finished: all where all is done, else fewer where there are any; all of them too where it is their summary that ends the run
 abbrev pub IsFinished : List Frame → Fault → ℕ → Type 0
 IsFinished frames Done count = count ≡ length frames
+IsFinished frames MessageFault count = count ≤ before_summary frames
+IsFinished frames NoMemory count = count ≤ before_summary frames
 IsFinished frames fault count = count ≤ length frames - 1
 
 -- ---- what is left in the storage

@@ -1,14 +1,7 @@
-pub mod Ranges
 pub mod Scenes
-pub mod Marks
-pub mod Parameters
-pub mod Grammar
-pub mod Samples
-pub mod Picture
+pub mod Frames
 pub mod Conversions
 pub mod Lines
-pub mod Frames
-pub mod Asked
 pub mod Verdict
 pub mod Said
 pub mod Steps

@@ -58,6 +58,22 @@ text_number fault = 0
 abbrev pub name_under : List (List ℕ) → ℕ → List ℕ
 name_under names number = unwrap_or (slice_get names number) []
 
+-- ---- the summary of a generated scene
+
+abbrev pub balls_line : ℕ → List ℕ
+balls_line balls = codes "generated " ++ decimal balls ++ codes " objects, "
+
+abbrev pub sides_line : ℕ → ℕ → List ℕ
+sides_line width height = decimal width ++ codes "x" ++ decimal height
+
+-- how many balls the scene has, the sides of a picture, and the sum of the bytes of all pictures
+abbrev pub summary_line : ℕ → ℕ → ℕ → ℕ → List ℕ
+summary_line balls width height total = balls_line balls ++ sides_line width height ++ codes ", sum " ++ decimal total ++ codes "\n"
+
+-- a scene that is read has none
+abbrev pub summary_of : ℕ → ℕ → ℕ → ℕ → List ℕ
+summary_of balls width height total = if balls == 0 then [] else summary_line balls width height total
+
 -- ---- what is still to be said of a fault
 
 abbrev pub messages_left : Option Report → List ℕ

@@ -1,5 +1,5 @@
 -- How a frame ends, and how far the frames of a plan come.
-use Rattle.std.specs.Prelude.{ℕ, ◌≡◌, ◌≢◌, List, [], ◌++◌, take, Option, Some, Ok, Err}
+use Rattle.std.specs.Prelude.{ℕ, ◌≤◌, ◌≡◌, ◌≢◌, List, [], ◌++◌, take, Option, Some, Result, Ok, Err}
 use Rattle.shelf.specs.Causes.{Rose}
 use Rattle.shelf.specs.Disk.{Contents, SameContents, Tells}
 use Rattle.shelf.specs.Stream.{with_bytes, GrewByLess}
@@ -11,13 +11,11 @@ use Rattle.povfix.specs.declared.ending.Ending.{Ending}
 use Rattle.povfix.specs.declared.expansion.Expansion.{Expansion}
 use Rattle.povfix.specs.declared.outcome.Fault.{Fault}
 use Rattle.povfix.specs.declared.outcome.Fault.TheVariants.{Done, OptionFault, TextFault, ShelfFault, MessageFault, NoMemory}
-use Rattle.povfix.specs.declared.refusal.Refusal.{Refusal}
-use Rattle.povfix.specs.Conversions.{parse_fault}
 use Rattle.povfix.specs.Frames.{Frame, frames_of, reached_by, AreStored, IsExpanded, IsFinished, SameBesides}
-use Rattle.povfix.specs.Grammar.{IsScene}
-use Rattle.povfix.specs.Lines.{line_left, line_of, messages_left, name_under, text_number}
-use Rattle.povfix.specs.Said.{IsFrameSaid, IsSaid}
-use Rattle.povfix.specs.Verdict.{FrameVerdict, IsFrameFault, done}
+use Rattle.povfix.specs.Lines.{line_left, line_of, messages_left, name_under, text_number, Says}
+use Rattle.povfix.specs.Said.{IsFrameSaid, IsSaid, no_memory_line}
+use Rattle.povfix.specs.Scenes.{IsRead}
+use Rattle.povfix.specs.Verdict.{AreDrawn, FrameVerdict, IsFrameFault, done}
 
 -- a fault that ends a frame
 abbrev pub IsEnding : Fault → Type 0
@@ -35,9 +33,7 @@ pub record IsCarried (frame : Frame) (texts : List Text) (before now : Option (L
 
 -- the items of a frame are refused, or there is no memory for them; nothing but the line is left to say
 pub record IsUnparsed (set : Settings) (found : Expansion) (ending : Ending) : Type 0 where
-  pub refusal : Refusal
-  pub answer : ending.fault ≡ parse_fault refusal
-  pub parsed : refusal ≢ Refusal.NoMemory → IsScene found.flat.tokens.items set (Err refusal)
+  pub read : ending.fault ≢ NoMemory → IsRead found.flat.tokens.items set (Err ending.fault)
   pub messages : messages_left ending.report ≡ []
   pub line : line_left ending.report ending.fault ≡ line_of (name_under found.names.items (text_number ending.fault)) [] ending.fault
 
@@ -48,12 +44,12 @@ IsLeft frame texts before now ending (OptionFault kind place) = ⊥
 IsLeft frame texts before now ending MessageFault =
     (found : Handed) × IsExpanded frame texts found × GrewByLess before now found.messages × (messages_left ending.report ≡ [])
 IsLeft frame texts before now ending ShelfFault =
-    (messages : List ℕ) × FrameVerdict frame texts (done messages) × (now ≡ with_bytes before messages) × (messages_left ending.report ≡ [])
+    (messages : List ℕ) × (total : ℕ) × FrameVerdict frame texts (done messages total) × (now ≡ with_bytes before messages) × (messages_left ending.report ≡ [])
 IsLeft frame texts before now ending TextFault = (messages : List ℕ) × (now ≡ with_bytes before messages)
 IsLeft frame texts before now ending NoMemory = (messages : List ℕ) × (now ≡ with_bytes before messages)
 IsLeft frame texts before now ending fault =
     (messages : List ℕ) × (now ≡ with_bytes before messages)
-    × FrameVerdict frame texts (record { fault = fault; messages = messages ++ messages_left ending.report; line = line_left ending.report fault })
+    × FrameVerdict frame texts (record { fault = fault; messages = messages ++ messages_left ending.report; total = 0; line = line_left ending.report fault })
 
 -- how a frame is cut short, and for what cause
 pub record IsCut (frame : Frame) (told : Option (List Text)) (texts_before texts_now shelf_before shelf_now sink_before sink_now : ℕ) (before now : Option (List ℕ)) (ending : Ending) : Type 0 where
@@ -65,9 +61,9 @@ pub record IsCut (frame : Frame) (told : Option (List Text)) (texts_before texts
 
 -- ---- behind its report
 
--- a frame is finished, and its messages are written
-pub record IsDone (frame : Frame) (told : Option (List Text)) (before now : Option (List ℕ)) : Type 0 where
-  pub said : (texts : List Text) → told ≡ Some texts → (messages : List ℕ) × FrameVerdict frame texts (done messages) × (now ≡ with_bytes before messages)
+-- a frame is finished, and its messages are written; this is the sum of the bytes of its picture
+pub record IsDone (frame : Frame) (told : Option (List Text)) (before now : Option (List ℕ)) (total : ℕ) : Type 0 where
+  pub said : (texts : List Text) → told ≡ Some texts → (messages : List ℕ) × FrameVerdict frame texts (done messages total) × (now ≡ with_bytes before messages)
 
 -- how a frame ends with a fault that is reported: with nothing new in the storage, nor in what a crash may leave of it,
 -- unless it is the storage that failed
@@ -80,16 +76,36 @@ pub record IsEnd (frame : Frame) (told : Option (List Text)) (texts_before texts
   pub kept : fault ≢ ShelfFault → SameContents old new
   pub crash_kept : fault ≢ ShelfFault → SameContents images images'
 
+-- the fault that ends the frames of a plan, or that all are drawn
+abbrev pub fault_of : Result ℕ Fault → Fault
+fault_of (Ok total) = Done
+fault_of (Err fault) = fault
+
+-- what the frames of a plan have said: the messages of all, before a summary, or what a run says that ends with their fault
+abbrev pub IsCourseSaid : Plan → List Text → ℕ → Result ℕ Fault → Option (List ℕ) → Option (List ℕ) → ℕ → ℕ → Type 0
+IsCourseSaid plan texts finished (Ok total) before now faults_before faults_now = (messages : List ℕ) × AreDrawn (frames_of plan) texts finished messages total × (now ≡ with_bytes before messages)
+IsCourseSaid plan texts finished (Err fault) before now faults_before faults_now = IsSaid (Ok plan) texts finished fault before now faults_before faults_now
+
 -- how far the frames of a plan come, and what they leave in the storage and tell the sink
-pub record IsCourse (plan : Plan) (told : Option (List Text)) (texts_before texts_now shelf_before shelf_now sink_before sink_now : ℕ) (old new images images' : Contents) (before now : Option (List ℕ)) (finished : ℕ) (fault : Fault) : Type 0 where
-  pub frames : IsFrameFault fault
-  pub count : IsFinished (frames_of plan) fault finished
+pub record IsCourse (plan : Plan) (told : Option (List Text)) (texts_before texts_now shelf_before shelf_now sink_before sink_now : ℕ) (old new images images' : Contents) (before now : Option (List ℕ)) (finished : ℕ) (end : Result ℕ Fault) : Type 0 where
+  pub frames : IsFrameFault (fault_of end)
+  pub count : IsFinished (frames_of plan) (fault_of end) finished
   pub stored : (texts : List Text) → told ≡ Some texts → AreStored (take finished (frames_of plan)) texts new
   pub durable : (texts : List Text) → told ≡ Some texts → AreStored (take finished (frames_of plan)) texts images'
-  pub said : (texts : List Text) → told ≡ Some texts → IsSaid (Ok plan) texts finished fault before now sink_before sink_now
-  pub text_fault : fault ≡ TextFault → Rose texts_before texts_now
-  pub shelf_fault : fault ≡ ShelfFault → Rose shelf_before shelf_now
-  pub message_fault : fault ≡ MessageFault → Rose sink_before sink_now
-  pub others : SameBesides (take (reached_by fault finished) (frames_of plan)) old new
-  pub crash_others : SameBesides (take (reached_by fault finished) (frames_of plan)) images images'
+  pub said : (texts : List Text) → told ≡ Some texts → IsCourseSaid plan texts finished end before now sink_before sink_now
+  pub text_fault : fault_of end ≡ TextFault → Rose texts_before texts_now
+  pub shelf_fault : fault_of end ≡ ShelfFault → Rose shelf_before shelf_now
+  pub message_fault : fault_of end ≡ MessageFault → Rose sink_before sink_now
+  pub sink_later : sink_before ≤ sink_now
+  pub others : SameBesides (take (reached_by (fault_of end) finished) (frames_of plan)) old new
+  pub crash_others : SameBesides (take (reached_by (fault_of end) finished) (frames_of plan)) images images'
   pub tells : Tells old new
+
+-- ---- once all frames are drawn
+
+-- the summary is said, or can't be written, or there is no memory for it; where there is none, nothing happens
+abbrev pub IsSummed : List ℕ → Option (List ℕ) → Option (List ℕ) → ℕ → ℕ → Fault → Type 0
+IsSummed summary before now faults_before faults_now Done = now ≡ with_bytes before summary
+IsSummed summary before now faults_before faults_now MessageFault = GrewByLess before now summary × Rose faults_before faults_now
+IsSummed summary before now faults_before faults_now NoMemory = (summary ≢ []) × Says before now faults_before faults_now no_memory_line
+IsSummed summary before now faults_before faults_now fault = ⊥

@@ -4,9 +4,9 @@ ghost use Rattle.povfix.specs.declared.outcome.Fault.TheVariants.{NoMemory, Shel
 ghost use Rattle.povfix.specs.Conversions.{error_text, expression_fault, hold_fault, lex_fault, option_fault, parse_fault, status_of, stop_fault};
 
 use crate::outcome::Fault;
-use crate::refusal::Refusal;
 use directive_machine::Stop;
 use fix_math::Str;
+use item_blocks::ParseFault;
 use options::OptionFault;
 use scene_expr::ExprFault;
 use scene_lexer::LexFault;
@@ -79,15 +79,17 @@ pub fn of_stop(alloc: Global, stop: Stop) -> (Fault, Str)
     }
 }
 
-impl From<Refusal> for Fault {
-    ghost from_gives = { λ refusal fault. fault ≡ parse_fault refusal };
+impl From<ParseFault> for Fault {
+    ghost from_gives = { λ found fault. fault ≡ parse_fault found };
 
-    fn from(refusal: Refusal) -> Fault {
-        match refusal {
-            Refusal::Expected(_, place) => Fault::SceneFault(b'P', 1, place),
-            Refusal::OutOfProfile(place) => Fault::SceneFault(b'P', 2, place),
-            Refusal::ValueRange(place) => Fault::SceneFault(b'P', 3, place),
-            Refusal::NoMemory => Fault::NoMemory,
+    fn from(found: ParseFault) -> Fault {
+        match found {
+            ParseFault::Expected { place, .. } => Fault::SceneFault(b'P', 1, place),
+            ParseFault::OutOfProfile { place, .. } => Fault::SceneFault(b'P', 2, place),
+            ParseFault::ValueRange { place } => Fault::SceneFault(b'P', 3, place),
+            ParseFault::Xform { place, .. } => Fault::SceneFault(b'P', 4, place),
+            ParseFault::Limit { which, place } => Fault::Limit(which, place),
+            ParseFault::NoMemory => Fault::NoMemory,
         }
     }
 }

@@ -1,21 +1,26 @@
 // From the texts of a scene to its tokens, with the messages on the way.
-ghost use Rattle.std.specs.Prelude.{◌≡◌, ◌≤◌, ◌<◌, ◌^◌, ℕ, List, Some, Ok, length, option_map, IfOk, IfErr};
+ghost use Rattle.std.specs.Prelude.{◌≡◌, ◌≢◌, ◌≤◌, ℕ, List, [], Some, Ok, Err, option_map, IfOk, IfErr};
 ghost use Rattle.directive_machine.specs.declared.texts.Text.{Text};
+ghost use Rattle.scene_expr.specs.Values.{AreWhole};
+ghost use Rattle.scene_model.specs.Valid.{Valid};
+ghost use Rattle.scene_parser.specs.Seen.{scene_seen};
 ghost use Rattle.options.specs.Frames.{settings_of, IsFrame};
 ghost use Rattle.options.specs.Plans.{IsPlan};
 ghost use Rattle.povfix.specs.Frames.{frame_of, generated_for};
-ghost use Rattle.povfix.specs.Grammar.{IsScene};
+ghost use Rattle.povfix.specs.Scenes.{IsRead};
 ghost use Rattle.povfix.specs.Steps.{IsCarried, IsCut, IsUnparsed};
 
 use crate::conversions::of_stop;
 use crate::ending::Ending;
 use crate::outcome::Fault;
-use crate::parser::parse;
 use crate::say::write_if_any;
-use crate::scene::Scene;
 use directive_machine::{Flat, Texts, expand};
 use fix_math::Str;
 use options::{Plan, generated, settings};
+use scene_expr::Settings;
+use scene_lexer::{Place, Token};
+use scene_model::Scene;
+use scene_parser::parse;
 use shelf::Sink;
 use std::alloc::{AllocError, Global};
 
@@ -82,19 +87,43 @@ pub fn expanded<T: Texts, K: Sink>(
     }
 }
 
+/// The place of a fault that stands at no token: the start of the first text.
+const START: Place = Place {
+    file: 0,
+    at: 0,
+    line: 1,
+};
+
+/// The scene of tokens. One with triangles is refused, since they aren't drawn yet.
+fn read(alloc: Global, tokens: &[Token], set: &Settings) -> Result<Scene, Fault>
+    requires { AreWhole set.now }
+    ensures scene { IfOk result (λ scene. IsRead tokens.now set.now (Ok (scene_seen scene))) }
+    ensures valid { IfOk result Valid }
+    ensures flat { IfOk result (λ scene. scene.sheets.items ≡ []) }
+    ensures fault { IfErr result (λ fault. fault ≢ Fault.NoMemory → IsRead tokens.now set.now (Err fault)) }
+{
+    let scene = parse(alloc, tokens, set)?;
+    if scene.sheets.is_empty() {
+        Ok(scene)
+    } else {
+        Err(Fault::SceneFault(b'P', 2, START))
+    }
+}
+
 /// The scene of a frame's tokens.
 pub fn parsed(alloc: Global, plan: &Plan, number: u32, found: Expansion) -> Result<Scene, Ending>
     requires plan { IsPlan plan.now }
     requires frame { IsFrame plan.now number }
-    ensures scene { IfOk result (λ scene. IsScene found.flat.tokens.items (settings_of plan.now number) (Ok scene)) }
-    ensures few { IfOk result (λ scene. length scene.balls < 2 ^ 32) }
-    ensures refusal { IfErr result (IsUnparsed (settings_of plan.now number) found) }
+    ensures scene { IfOk result (λ scene. IsRead found.flat.tokens.items (settings_of plan.now number) (Ok (scene_seen scene))) }
+    ensures valid { IfOk result Valid }
+    ensures flat { IfOk result (λ scene. scene.sheets.items ≡ []) }
+    ensures fault { IfErr result (IsUnparsed (settings_of plan.now number) found) }
 {
-    match parse(alloc, &found.flat.tokens, &settings(plan, number)) {
+    match read(alloc, &found.flat.tokens, &settings(plan, number)) {
         Ok(scene) => Ok(scene),
-        Err(refusal) => Err(Ending::in_scene(
+        Err(fault) => Err(Ending::in_scene(
             alloc,
-            Fault::from(refusal),
+            fault,
             Vec::new(alloc),
             found.names,
             Str::new(Vec::new(alloc)),

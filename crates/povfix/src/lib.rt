@@ -2,19 +2,13 @@
 #![tactic(auto)]
 
 mod conversions;
+mod drawing;
 mod ending;
 mod expansion;
-mod frame_trace;
-mod grammar;
 mod law;
 mod outcome;
-mod parameters;
-mod parser;
-mod refusal;
 mod render;
-mod sample;
 mod say;
-mod scene;
 mod store;
 
 pub use directive_machine::{FolderTexts, MemTexts, ReadFail, Text, Texts};
@@ -22,5 +16,3 @@ pub use law::{one_meaning, one_verdict};
 pub use options::{OptionFault, Plan, Where};
 pub use outcome::{Fault, Outcome, Traced};
 pub use render::run;
-pub use sample::append_pixel;
-pub use scene::{Ball, Colour, Scene};

@@ -3,11 +3,12 @@ ghost use Rattle.std.specs.Prelude.{◌≡◌, ◌≤◌, ◌⊎◌, ◌++◌, �
 ghost use Rattle.std.specs.Fmt.{decimal};
 ghost use Rattle.shelf.specs.Causes.{HasCause};
 ghost use Rattle.shelf.specs.Stream.{with_bytes, GrewByLess};
-ghost use Rattle.povfix.specs.Lines.{absent_line, limit_line, line_left, line_of, messages_left, option_line, place_line, scene_line, text_line, where_line, IsPlaced, IsReported, Says};
+ghost use Rattle.povfix.specs.Lines.{absent_line, limit_line, line_left, line_of, messages_left, option_line, place_line, balls_line, scene_line, sides_line, summary_line, summary_of, text_line, where_line, IsPlaced, IsReported, Says};
+ghost use Rattle.povfix.specs.Steps.{IsSummed};
 
 use crate::ending::Ending;
 use crate::outcome::Fault;
-use options::Where;
+use options::{Plan, Where};
 use shelf::{Failed, Sink};
 use std::alloc::{AllocError, Global};
 
@@ -191,6 +192,60 @@ fn report_line<K: Sink>(
         }
         Fault::MessageFault => Fault::MessageFault,
         Fault::NoMemory => {
+            say(messages, b"no memory\n");
+            Fault::NoMemory
+        }
+    }
+}
+
+/// Puts the count of a generated scene's balls first.
+fn push_balls(alloc: Global, line: &mut Vec<u8>, balls: u32) -> Result<(), AllocError>
+    ensures { OnOk result (line.new.items ≡ line.old.items ++ balls_line balls) }
+{
+    line.extend_from_slice(b"generated ")?;
+    push_number(alloc, line, balls)?;
+    line.extend_from_slice(b" objects, ")?;
+    Ok(())
+}
+
+/// Puts the sides of a picture behind what the line says.
+fn push_sides(alloc: Global, line: &mut Vec<u8>, width: u32, height: u32) -> Result<(), AllocError>
+    ensures { OnOk result (line.new.items ≡ line.old.items ++ sides_line width height) }
+{
+    push_number(alloc, line, width)?;
+    line.extend_from_slice(b"x")?;
+    push_number(alloc, line, height)
+}
+
+/// The summary of a generated scene, of whose pictures the bytes have this sum.
+fn summary(alloc: Global, plan: &Plan, total: u64) -> Result<Vec<u8>, AllocError>
+    ensures { IfOk result (λ line. line.items ≡ summary_line plan.now.generate plan.now.width plan.now.height total) }
+{
+    let mut line = Vec::new(alloc);
+    push_balls(alloc, &mut line, plan.generate)?;
+    push_sides(alloc, &mut line, plan.width, plan.height)?;
+    line.extend_from_slice(b", sum ")?;
+    let digits = total.to_string(alloc)?;
+    line.extend_from_slice(digits.as_bytes())?;
+    line.extend_from_slice(b"\n")?;
+    Ok(line)
+}
+
+/// Says the summary of a generated scene, once all its frames are drawn; nothing of a scene that is read.
+pub fn summed<K: Sink>(alloc: Global, messages: &mut K, plan: &Plan, total: u64) -> Fault
+    ensures said { IsSummed (summary_of plan.now.generate plan.now.width plan.now.height total)
+        (K.written messages.old) (K.written messages.new) (K.faults messages.old) (K.faults messages.new) result }
+    ensures later { K.faults messages.old ≤ K.faults messages.new }
+{
+    if plan.generate == 0 {
+        return Fault::Done;
+    }
+    match summary(alloc, plan, total) {
+        Ok(line) => match messages.write(&line) {
+            Ok(()) => Fault::Done,
+            Err(_) => Fault::MessageFault,
+        },
+        Err(_) => {
             say(messages, b"no memory\n");
             Fault::NoMemory
         }

@@ -135,7 +135,7 @@ fn absent_texts_are_named(rt: HostRuntime) -> Result<(), Fail> {
 #[test]
 fn refused_scenes_are_told_with_their_line(rt: HostRuntime) -> Result<(), Fail> {
     let rows: [(&[u8], &[u8]); 3] = [
-        (b"sphere { <0,0,4>, 1 }", b"scene fault P2 at a.pov:1\n"),
+        (b"sphere { <0,0,4> }", b"scene fault P1 at a.pov:1\n"),
         (b"\n\n$", b"scene fault L1 at a.pov:3\n"),
         (
             b"\nbackground {\nrgb <1,1,257> }",

@@ -14,9 +14,9 @@ mod frames;
 #[cfg(test)]
 mod memory;
 #[cfg(test)]
-mod rig;
+mod pictures;
 #[cfg(test)]
-mod samples;
+mod rig;
 #[cfg(test)]
 mod scenes;
 #[cfg(test)]

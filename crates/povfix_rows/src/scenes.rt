@@ -55,21 +55,21 @@ const FORMS: [(&[u8], &str); 16] = [
     (b"\r\rx", "P2 0@2:1"),
     (b"\xef\xbb\xbf\nx", "P2 0@4:2"),
     (b"Background { rgb <1,1,1> }", "P2 0@0:1"),
-    (b".", "P2 0@0:1"),
+    (b".", "P1 0@0:1"),
     (b"#", "D1 0@0:1"),
-    (b"1", "P2 0@0:1"),
-    (b"\"a\"", "P2 0@0:1"),
-    (b"background", "P2 0@10:1"),
-    (b"background ", "P2 0@10:1"),
+    (b"1", "P1 0@0:1"),
+    (b"\"a\"", "P1 0@0:1"),
+    (b"background", "P1 0@10:1"),
+    (b"background ", "P1 0@10:1"),
     (b"background {", "P1 0@12:1"),
-    (b"background { rgb <1,1,1> ", "P2 0@24:1"),
-    (b"background {\n rgb <1,1,1>\n\n", "P2 0@25:2"),
-    (b"background { rgb <1,1,1>, }", "P2 0@24:1"),
-    (b"background { rgb <1,1,1> } }", "P2 0@27:1"),
+    (b"background { rgb <1,1,1> ", "P1 0@24:1"),
+    (b"background {\n rgb <1,1,1>\n\n", "P1 0@25:2"),
+    (b"background { rgb <1,1,1>, }", "P1 0@24:1"),
+    (b"background { rgb <1,1,1> } }", "P1 0@27:1"),
 ];
 
-/// Texts that are refused for a value, a byte or a sphere's form.
-const VALUES: [(&[u8], &str); 26] = [
+/// Texts that are refused for a value, a byte or an object's form.
+const VALUES: [(&[u8], &str); 32] = [
     (b"background { rgb <1,1,257> }", "P3 0@13:1"),
     (b"background { color rgb <1,1,257> }", "P3 0@13:1"),
     (b"background { rgb <-1,0,0> }", "P3 0@13:1"),
@@ -84,11 +84,13 @@ const VALUES: [(&[u8], &str); 26] = [
     (b"\"a", "L3 0@0:1"),
     (b"a234567890123456789012345678901234567890", "P2 0@0:1"),
     (b"a2345678901234567890123456789012345678901", "L4 0@0:1"),
-    (b"2147483647", "P2 0@0:1"),
+    (b"2147483647", "P1 0@0:1"),
     (b"2147483648", "L5 0@0:1"),
     (b" 1234567890123456789012345678901", "L5 0@1:1"),
-    (b"sphere { <0,0,4>, 1 }", "P2 0@20:1"),
-    (b"sphere { <0,0,4> 1 pigment", "P2 0@26:1"),
+    (b"sphere { <0,0,4> }", "P1 0@17:1"),
+    (b"union { }", "P1 0@8:1"),
+    (b"torus { 1, 0.2 }", "P2 0@0:1"),
+    (b"sphere { <0,0,4> 1 pigment", "P1 0@26:1"),
     (
         b"sphere { <0,0,4097>, 1 pigment { rgb <1,0,0> } finish { ambient 1 diffuse 0 } }",
         "P3 0@9:1",
@@ -103,17 +105,18 @@ const VALUES: [(&[u8], &str); 26] = [
         "P3 0@18:1",
     ),
     (
-        b"sphere { <0,0,4>, 1 pigment { rgb <0,1,0> } finish { ambient 0.5 diffuse 0 } }",
-        "P2 0@61:1",
-    ),
-    (
-        b"sphere { <0,0,4>, 1 pigment { rgb <0,1,0> } finish { ambient 1 diffuse 1 } }",
-        "P2 0@71:1",
-    ),
-    (
         b"sphere { <0,0,4>, 1 pigment { rgb <0,1,0> } finish { ambient 1 diffuse 0 }\n",
-        "P2 0@74:1",
+        "P1 0@74:1",
     ),
+    (b"sphere { <0,0,4096.00002>, 1 }", "P3 0@9:1"),
+    (b"sphere { 0, 1 scale 0 }", "P4 0@20:1"),
+    (b"global_settings { adc_bailout 2 }", "P3 0@30:1"),
+    (b"light_source { 0, rgb 1 radius 91 }", "P3 0@31:1"),
+    (
+        b"difference { box { 0, 1 } triangle { 0, x, y } }",
+        "P2 0@26:1",
+    ),
+    (b"background { rgb 1 } triangle { 0, x, y }", "P2 0@0:1"),
 ];
 
 /// Each text means a picture of one pixel.

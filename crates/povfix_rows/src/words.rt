@@ -1,5 +1,5 @@
 // Command words, with the picture file that they make or the refusal that they meet.
-use crate::rig::rendered;
+use crate::rig::{rendered, tried};
 use std::alloc::{AllocError, Global};
 use std::process::Abort;
 use std::test::Fail;
@@ -105,7 +105,7 @@ const VALUES: [(&[&str], &[u8]); 26] = [
 ];
 
 /// Words that are refused, and what the sink is told: other switches, other words, and the order of refusals.
-const SWITCHES: [(&[&str], &[u8]); 19] = [
+const SWITCHES: [(&[&str], &[u8]); 24] = [
     (&["a.pov", "+FPx"], b"option fault 1 at word 2\n"),
     (&["a.pov", "+F"], b"option fault 1 at word 2\n"),
     (&["a.pov", "+FN"], b"option fault 7 at word 2\n"),
@@ -122,7 +122,12 @@ const SWITCHES: [(&[&str], &[u8]); 19] = [
         &["a.pov", "+W1", "+Hx", "+H0", "+I"],
         b"option fault 2 at word 3\n",
     ),
-    (&["a.pov", "+A0.3"], b"option fault 7 at word 0\n"),
+    (&["a.pov", "+A4"], b"option fault 4 at word 2\n"),
+    (&["a.pov", "+AM2"], b"option fault 7 at word 2\n"),
+    (&["a.pov", "+R0"], b"option fault 4 at word 2\n"),
+    (&["+FPx"], b"option fault 1 at word 1\n"),
+    (&["a.pov", "+KFI5", "+KFF3"], b"option fault 4 at word 0\n"),
+    (&["a.pov", "good.ini[b]"], b"option fault 5 at word 2\n"),
     (&["+A"], b"option fault 3 at word 0\n"),
     (&["a.pov", "none.ini"], b"option fault 5 at word 2\n"),
     (&["a.pov", "bad.ini"], b"option fault 2 at line 2\n"),
@@ -182,14 +187,46 @@ fn accepted_words_make_the_picture_file(rt: HostRuntime) -> Result<(), Fail> {
     Ok(())
 }
 
-/// The generated scene takes the place of the one that is named; its first item isn't drawn yet.
+/// The generated scene takes the place of the one that is named. The ray meets the plane in a cell of the second colour:
+/// each channel is 1311 of the ambient part and 6273 of the lamp's, 7584 raw, and 30 of 255.
 #[test]
-fn a_generated_scene_ends_at_its_first_item(rt: HostRuntime) -> Result<(), Fail> {
-    let left = rendered(&rt, rt.alloc(), &["a.pov", "+GEN3"], &TEXTS)?;
-    assert_eq!(&rt; left.outcome.status, 2);
+fn a_generated_scene_has_a_summary(rt: HostRuntime) -> Result<(), Fail> {
+    let words = ["a.pov", "+GEN1", "+W1", "+H1"];
+    for _ in 0..2 {
+        let left = rendered(&rt, rt.alloc(), &words, &TEXTS)?;
+        assert_eq!(&rt; left.outcome.status, 0);
+        assert_eq!(&rt;
+            left.told.bytes(),
+            b"generated 1 objects, 1x1, sum 90\n".as_slice()
+        );
+    }
+    Ok(())
+}
+
+/// The sum is that of all frames, in two bytes a sample: 7584 raw is 7583.9 of 65535, bytes 29 and 160.
+#[test]
+fn a_summary_counts_all_frames(rt: HostRuntime) -> Result<(), Fail> {
+    let words = ["+GEN1", "+W1", "+H1", "+FP16", "+KFF2"];
+    let left = rendered(&rt, rt.alloc(), &words, &TEXTS)?;
+    assert_eq!(&rt; left.outcome.finished, 2);
     assert_eq!(&rt;
         left.told.bytes(),
-        b"scene fault P2 at generated.pov:1\n".as_slice()
+        b"generated 1 objects, 1x1, sum 1134\n".as_slice()
+    );
+    Ok(())
+}
+
+/// A sink in memory without the room for a summary takes none of it; the frame is finished then.
+#[test]
+fn a_summary_that_cannot_be_written_is_told(rt: HostRuntime) -> Result<(), Fail> {
+    let words = ["+GEN1", "+W1", "+H1"];
+    let left = tried(&rt, rt.alloc(), &words, &TEXTS, 9, None)?;
+    assert_eq!(&rt; left.outcome.status, 8);
+    assert_eq!(&rt; left.outcome.finished, 1);
+    assert_eq!(&rt; left.told.bytes(), b"".as_slice());
+    assert_eq!(&rt;
+        left.outcome.shelf.contents(b"generated.ppm"),
+        b"P6\n1 1\n255\n\x1e\x1e\x1e".as_slice()
     );
     Ok(())
 }

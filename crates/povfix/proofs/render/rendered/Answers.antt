@@ -1,13 +1,12 @@
-use Rattle.std.proofs.Common.{◌∙◌, ap, Err}
+use Rattle.std.proofs.Common.{◌∙◌, ap, sum, Err}
 use Rattle.image_out.specs.Files.{file_of}
-use Rattle.povfix.proofs.Endings.{drawn_meaning, drawn_verdict, no_memory_cut, stored_cut, stored_kept, stored_meaning, unparsed_cut}
-use Rattle.povfix.proofs.Items.{exit}
+use Rattle.povfix.proofs.Endings.{drawn_meaning, drawn_said, drawn_verdict, exit, no_memory_cut, stored_cut, stored_kept, stored_meaning, unparsed_cut}
 use Rattle.povfix.proofs.render.rendered.Goals as goal
 
 pub returns-in_err-scene-clause-cut : goal.returns-in_err-scene-clause-cut
 returns-in_err-scene-clause-cut g c =
     exit _ _ _ c.from_residual-in_err-scene.ensures.1
-    (unparsed_cut _ _ _ _ _ _ _ _ _ c.in_ok-found.found _ c.in_ok-found.ensures.found c.in_err-scene.ensures.refusal)
+    (unparsed_cut _ _ _ _ _ _ _ _ _ c.in_ok-found.found _ c.in_ok-found.ensures.found c.in_err-scene.ensures.fault)
 
 pub returns-in_err-picture-clause-cut : goal.returns-in_err-picture-clause-cut
 returns-in_err-picture-clause-cut g c =
@@ -28,8 +27,7 @@ pub returns-in_err-store-clause-cut : goal.returns-in_err-store-clause-cut
 returns-in_err-store-clause-cut g c =
     exit _ _ _ c.from_residual-in_err-store.ensures.1
     (stored_cut _ _ _ _ _ _ _ _ _ _ c.in_err-store.field-0.0
-    (λ h held. drawn_verdict _ h _ _ c.in_ok-found.found c.in_ok-scene.scene _ c.in_ok-file.file.items (c.in_ok-found.ensures.found h held) c.in_ok-scene.ensures.scene c.in_ok-picture.ensures
-    (c.in_ok-file.ensures ∙ ap (file_of c.args.plan.now.sort c.args.plan.now.width c.args.plan.now.height c.args.plan.now.bits) c.deref.ensures.value))
+    (λ h held. drawn_verdict _ h _ _ c.in_ok-found.found c.in_ok-scene.scene c.in_ok-picture.picture.items (c.in_ok-found.ensures.found h held) c.in_ok-scene.ensures.scene c.in_ok-picture.ensures.shown)
     (λ e. c.in_err-store.ensures.cause.rose (ap (λ fail. Err fail) e)))
 
 pub returns-in_err-store-clause-kept : goal.returns-in_err-store-clause-kept
@@ -45,17 +43,16 @@ returns-in_err-store-clause-crash_kept g c =
 pub returns-clause-stored : goal.returns-clause-stored
 returns-clause-stored g c = λ h held.
     stored_meaning _ h (g.S.Shelf.holds c.store.new.shelf) _ _ c.in_ok-file.file.items _ (c.bytes.ensures ∙ c.in_ok-name.ensures) c.deref-2.ensures.value c.in_ok-store.ensures.stored
-    (drawn_meaning _ h _ _ c.in_ok-found.found c.in_ok-scene.scene _ c.in_ok-file.file.items (c.in_ok-found.ensures.found h held) c.in_ok-scene.ensures.scene c.in_ok-picture.ensures
+    (drawn_meaning _ h _ _ c.in_ok-found.found c.in_ok-scene.scene c.in_ok-picture.picture.items (c.in_ok-found.ensures.found h held) c.in_ok-scene.ensures.scene c.in_ok-picture.ensures.shown c.in_ok-file.file.items
     (c.in_ok-file.ensures ∙ ap (file_of c.args.plan.now.sort c.args.plan.now.width c.args.plan.now.height c.args.plan.now.bits) c.deref.ensures.value))
 
 pub returns-clause-durable : goal.returns-clause-durable
 returns-clause-durable g c = λ h held.
     stored_meaning _ h (g.S.Shelf.images c.store.new.shelf (g.S.Shelf.moment c.store.new.shelf)) _ _ c.in_ok-file.file.items _ (c.bytes.ensures ∙ c.in_ok-name.ensures) c.deref-2.ensures.value c.in_ok-store.ensures.durable
-    (drawn_meaning _ h _ _ c.in_ok-found.found c.in_ok-scene.scene _ c.in_ok-file.file.items (c.in_ok-found.ensures.found h held) c.in_ok-scene.ensures.scene c.in_ok-picture.ensures
+    (drawn_meaning _ h _ _ c.in_ok-found.found c.in_ok-scene.scene c.in_ok-picture.picture.items (c.in_ok-found.ensures.found h held) c.in_ok-scene.ensures.scene c.in_ok-picture.ensures.shown c.in_ok-file.file.items
     (c.in_ok-file.ensures ∙ ap (file_of c.args.plan.now.sort c.args.plan.now.width c.args.plan.now.height c.args.plan.now.bits) c.deref.ensures.value))
 
 pub returns-clause-said : goal.returns-clause-said
 returns-clause-said g c = record {
-  said = λ h held. drawn_verdict _ h _ _ c.in_ok-found.found c.in_ok-scene.scene _ c.in_ok-file.file.items (c.in_ok-found.ensures.found h held) c.in_ok-scene.ensures.scene c.in_ok-picture.ensures
-      (c.in_ok-file.ensures ∙ ap (file_of c.args.plan.now.sort c.args.plan.now.width c.args.plan.now.height c.args.plan.now.bits) c.deref.ensures.value);
+  said = λ h held. drawn_said _ h _ _ c.in_ok-found.found c.in_ok-scene.scene c.in_ok-picture.picture.items (c.in_ok-found.ensures.found h held) c.in_ok-scene.ensures.scene c.in_ok-picture.ensures.shown c.total.result (c.total.ensures.value ∙ ap sum c.deref-3.ensures.value);
 }
