@@ -6,7 +6,7 @@ set -eu
 
 home=${TESTS%/*}
 mkdir examples
-cp "$home"/examples/*.pov "$home"/examples/*.ini examples/
+cp "$home"/examples/*.pov "$home"/examples/*.inc "$home"/examples/*.ini examples/
 ln -s "$POVFIX" povfix
 
 # header FILE, size FILE: what a picture file says of itself, and its bytes.
@@ -56,15 +56,18 @@ for film in examples/*.ini; do
     equal "$film" "0, of $(setting Final_Frame) wrong:, others:" "$ended, of $last wrong:$wrong, others:$(find examples -name "${stem##*/}*.ppm" | sed "1,${last}d")"
 done
 
-# The picture that the README shows.
-if command -v pngtopnm >/dev/null; then
-    "$POVFIX" +Iexamples/hills.pov +W480 +H360
-    pngtopnm "$home/docs/hills.png" >shown.ppm
-    if cmp -s shown.ppm examples/hills.ppm; then
-        passed 'the picture in the README is the one that is made'
-    else
-        failed 'the picture in the README is the one that is made' 'they differ'
-    fi
+# The pictures of the gallery, at half their size.
+if command -v pngtopnm >/dev/null && command -v pamscale >/dev/null; then
+    for shown in "$home"/docs/gallery/*.png; do
+        name=$(basename "$shown" .png)
+        pngtopnm "$shown" >shown.ppm
+        pamscale 0.5 "examples/$name.ppm" >made.ppm 2>said
+        if cmp -s shown.ppm made.ppm; then
+            passed "the picture of $name in the gallery is the one that is made"
+        else
+            failed "the picture of $name in the gallery is the one that is made" 'they differ'
+        fi
+    done
 else
-    skipped 'the picture in the README' 'netpbm is not installed'
+    skipped 'the pictures of the gallery' 'netpbm is not installed'
 fi

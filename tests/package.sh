@@ -32,6 +32,9 @@ equal 'a run from the archive, through a link and with no kit, is done' '0 ' "$e
 equal 'and writes the picture' "$picture" "$(od -An -tx1 work/one.ppm | tr -d ' \n')"
 holds 'the version names the commit and the kit' "$(work/link --version)" 'povfix ' 'commit ' 'proved by '
 equal 'the documents are where --help says' yes "$(where=$(work/link --help | sed -n 's/^Documents and examples: \(.*\) (.*/\1/p') && [ -f "$where/docs/OPTIONS.md" ] && [ -f "$where/examples/first.pov" ] && echo yes)"
+equal 'each picture that a document shows is there' '' "$(cd "$tree" && for text in README.md docs/*.md; do
+    sed -n 's/^!\[.*](\(.*\))$/\1/p' "$text" | while read -r shown; do [ -f "$(dirname "$text")/$shown" ] || echo "$text: $shown"; done
+done)"
 if command -v ldd >/dev/null; then
     equal 'the program needs the C library alone' '' "$(ldd "$tree/povfix_main" | awk '$1 !~ /^(linux-vdso\.so\.1|libc\.so\.6|\/.*\/ld-linux.*)$/ { print $1 }')"
 else

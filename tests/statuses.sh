@@ -42,6 +42,18 @@ spaces 100000 >b.ppm
 ending 'a picture over a longer file' 0 '' "$POVFIX" a.pov +W1 +H1 +Ob.ppm
 has_pixel 'the longer file is cut' b.ppm
 
+folder generated
+# The one pixel's channels are 30 each, in both frames.
+ending 'a generated scene' 0 'generated 1 objects, 1x1, sum 180' "$POVFIX" +GEN1 +W1 +H1 +KFF2
+ending 'a summary that cannot be written' 8 '' sh -c '"$1" +GEN1 +W1 +H1 2>/dev/full' sh "$POVFIX"
+equal 'the picture before it' 14 "$(($(wc -c <generated.ppm)))"
+for turn in first second; do
+    ending "a larger one, the $turn time" 0 'generated 400 objects, 160x120, sum 4613877' "$POVFIX" +GEN400 +W160 +H120
+done
+cp "${TESTS%/*}/examples/desk.pov" "${TESTS%/*}/examples/tints.inc" .
+ending 'the desk' 0 '' "$POVFIX" desk.pov +W160 +H120 +WT4
+equal 'the size of its picture' 57615 "$(($(wc -c <desk.ppm)))"
+
 folder frames
 printf 'Input_File_Name=a.pov\nWidth=1\nHeight=1\nFinal_Frame=11\n' >film.ini
 ending 'an animation' 0 '' "$POVFIX" film.ini +SF9
@@ -82,6 +94,10 @@ ending 'an INI file that is not there' 1 'option fault 5 at word 1' "$POVFIX" no
 ending 'a word that is not UTF-8' 1 'option fault 7 at word 0' "$POVFIX" "$(printf 'a\377.pov')"
 ending 'no word' 1 'option fault 3 at word 0' "$POVFIX" +W1
 ending 'a text that begins no token' 2 'scene fault L1 at b.pov:2' "$POVFIX" b.pov
+printf '%s triangle { 0, x, y }' "$scene" >b.pov
+ending 'a scene with a triangle' 2 'scene fault P2 at b.pov:1' "$POVFIX" b.pov
+printf '%s\ntorus { 1, 0.2 }' "$scene" >b.pov
+ending 'an item that is out of profile' 2 'scene fault P2 at b.pov:2' "$POVFIX" b.pov
 ending 'a text that is not there' 4 'absent c.pov' "$POVFIX" c.pov
 mkdir d.pov
 ending 'a folder in the place of a text' 5 'text fault' "$POVFIX" d.pov
