@@ -1,5 +1,5 @@
 // The solid of a leaf.
-ghost use Rattle.std.specs.Prelude.{◌≡◌, ◌↔◌, ℕ, ◌&&◌, nat_lt, true, false};
+ghost use Rattle.std.specs.Prelude.{◌≡◌, ◌↔◌, ℕ, ◌<◌, ◌&&◌, nat_lt, true, false};
 
 use crate::coefficients::conic;
 use crate::conic::Conic;
@@ -13,7 +13,6 @@ use crate::range_pairs::Ranges;
 use crate::ray::Point;
 use crate::taper::Taper;
 use crate::tube::Tube;
-use crate::volume::Volume;
 use fix_math::V3;
 use scene_model::{Leaf, Primitive};
 
@@ -42,6 +41,7 @@ impl Solid {
     ghost use Rattle.shapes.specs.Faces.{all_hold, faces_of, first_failing};
     ghost use Rattle.shapes.specs.Lines.{is_in_stretches};
     ghost use Rattle.shapes.specs.Rays.{IsInWorld, Position, point_at, position_of};
+    ghost use Rattle.shapes.specs.Rows.{IsInRanges, IsInOrder};
     ghost use Rattle.shapes.specs.Growths.{solid_outward};
     ghost use Rattle.shapes.specs.Outward.{outward_of, unit_towards};
     ghost use Rattle.shapes.specs.Solids.{solid_faces, solid_side, is_uncapped};
@@ -161,6 +161,15 @@ impl Solid {
         }
     }
 
+    /// The numbers of the path at which the solid holds, as ranges.
+    pub fn ranges(&self, path: &Path) -> Ranges
+        ensures numbers { (t : ℕ) → IsInRanges result t
+            ↔ ((t < path.now.end) × (all_hold (solid_faces self.now (point_at path.now.ray t)) ≡ true)) }
+        ensures order { IsInOrder result }
+    {
+        Ranges::of_stretches(&self.stretches(path))
+    }
+
     /// The direction out of a face at a point of the solid, with the length of 1 unit. A number behind the
     /// last face's counts as the last.
     pub fn normal(&self, inner: &Point, face: u8) -> V3
@@ -176,17 +185,5 @@ impl Solid {
             Body::Cone(taper) => taper.normal(inner, face),
             Body::Bowl(conic) => conic.normal(inner),
         }
-    }
-}
-
-impl Volume for Solid {
-    ghost use Rattle.std.specs.Prelude.{true};
-    ghost use Rattle.shapes.specs.Faces.{all_hold};
-    ghost use Rattle.shapes.specs.Solids.{solid_faces};
-
-    ghost holds = { λ solid p. all_hold (solid_faces solid p) ≡ true };
-
-    fn ranges(&self, path: &Path) -> Ranges {
-        Ranges::of_stretches(&self.stretches(path))
     }
 }

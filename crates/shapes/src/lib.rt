@@ -27,7 +27,6 @@ mod sphere;
 mod taper;
 mod tube;
 mod upright;
-mod volume;
 mod wide;
 
 pub use body::Solid;
@@ -37,5 +36,3 @@ pub use queries::{face, inside, normal, ranges, solid};
 pub use range_pairs::Ranges;
 pub use ray::{Point, Ray};
 pub use span::Span;
-pub use sphere::Sphere;
-pub use volume::Volume;

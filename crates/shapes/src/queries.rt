@@ -12,7 +12,6 @@ use crate::body::Solid;
 use crate::path::Path;
 use crate::range_pairs::Ranges;
 use crate::ray::{Point, Ray};
-use crate::volume::Volume;
 use fix_math::V3;
 use scene_model::Leaf;
 

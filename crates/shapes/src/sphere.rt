@@ -6,11 +6,9 @@ use crate::aim::{Side, approach, excess, guess, is_away};
 use crate::curve::Curve;
 use crate::near::valley_near;
 use crate::path::{Path, is_near};
-use crate::range_pairs::Ranges;
 use crate::ray::Ray;
 use crate::sight::Sight;
 use crate::span::{Line, Span};
-use crate::volume::Volume;
 use fix_math::{Fix, V3};
 
 /// The points that are no farther from a centre than a radius. (Reference manual, sphere)
@@ -172,21 +170,11 @@ impl Sphere {
     }
 }
 
-impl Volume for Sphere {
-    ghost use Rattle.shapes.specs.Spheres.{IsInSphere};
-
-    ghost holds = { λ sphere. IsInSphere sphere.centre sphere.radius };
-
-    #[inline]
-    fn ranges(&self, path: &Path) -> Ranges {
-        Ranges::of_span(self.row(path))
-    }
-}
-
 #[cfg(test)]
 mod tests {
     use super::*;
     use crate::path::last_t;
+    use crate::range_pairs::Ranges;
 
     fn vector(x: i32, y: i32, z: i32) -> V3 {
         V3 {
@@ -219,7 +207,7 @@ mod tests {
             let sphere = Sphere::new(centre, Fix(radius as i64));
             let path = Path::new(&ray);
             let ranges = match (sphere, path) {
-                (Some(sphere), Some(path)) => Some(sphere.ranges(&path)),
+                (Some(sphere), Some(path)) => Some(Ranges::of_span(sphere.row(&path))),
                 _ => None,
             };
             let want = Ranges {

@@ -2,7 +2,7 @@ use Rattle.shapes.specs.Faces.{all_hold}
 use Rattle.shapes.specs.Rays.{point_at}
 use Rattle.shapes.specs.Solids.{solid_faces}
 use Rattle.shapes.proofs.Told.{path_numbers}
-use Rattle.shapes.proofs.body.SolidVolume.ranges.Goals as goal
+use Rattle.shapes.proofs.body.Solid.ranges.Goals as goal
 
 pub returns-clause-numbers : goal.returns-clause-numbers
 returns-clause-numbers c = λ t.
