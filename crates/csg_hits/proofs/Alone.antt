@@ -13,8 +13,8 @@ use Rattle.csg_hits.specs.declared.row.Row.{Row}
 use Rattle.csg_hits.specs.Outlooks.{IsLeast, IsUnstruck, IsOutlook, IsOutcome, IsQuiet}
 use Rattle.csg_hits.specs.Rows.{row_crossing, row_holds, leaf_in, crossing_in}
 use Rattle.csg_hits.specs.Sides.{Crossing, Sides, differ, sides, sides_step, leaf_sides, nowhere}
-use Rattle.csg_hits.proofs.Groups.{Leaves}
-use Rattle.csg_hits.proofs.Looking.{same_outlook}
+use Rattle.csg_hits.proofs.Groups.{Leaves, same_sides}
+use Rattle.csg_hits.proofs.Looking.{same_outcome, same_outlook}
 
 pub leaf_is : (leaf : ℕ → Crossing) (shape : Shape) (n : ℕ) → shape ≡ Leaf n → sides leaf shape ≡ leaf_sides n (leaf n)
 leaf_is leaf shape n is = ap (sides leaf) (is ∙ sym (rolls-Leaf n)) ∙ fold-roll-Shape Sides (sides_step leaf) (Shape-F.Leaf n)
@@ -68,3 +68,11 @@ pub none_outcome : (rows : List Row) (n t end : ℕ) (o : Outcome) → length ro
 none_outcome rows n t end o past h =
     let at : slice_get rows n ≡ None = slice_get_past rows n past in
     let P : Option Row → Type 0 = λ r. IsOutcome (λ s. leaf_sides n (crossing_in r s)) t end o in subst P (sym at) h
+
+-- a row that holds nowhere
+nowhere_row : (row : Row) (n s : ℕ) → ((t : ℕ) → row_holds row t ≡ false) → leaf_sides n (row_crossing row s) ≡ nowhere
+nowhere_row row n s h =
+    same_sides (leaf_sides n (row_crossing row s)) nowhere (h (s - 1)) (h s) (λ m. quiet_row row n s (h (s - 1) ∙ sym (h s)) m)
+
+pub nowhere_outcome : (row : Row) (n t end : ℕ) (o : Outcome) → ((s : ℕ) → row_holds row s ≡ false) → IsOutcome (λ s. nowhere) t end o → IsOutcome (λ s. leaf_sides n (row_crossing row s)) t end o
+nowhere_outcome row n t end o h k = same_outcome (λ s. nowhere) _ t end o (λ s. nowhere_row row n s h) k

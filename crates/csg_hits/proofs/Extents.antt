@@ -1,5 +1,5 @@
 -- The boxes of leaves that are kept, and those of the objects made of them.
-use Rattle.std.proofs.Common.{ℕ, zero, suc, ◌-◌, ◌<◌, ◌≤◌, ◌≡◌, Bool, true, false, ◌&&◌, ◌⊎◌, inl, inr, Option, Some, None, List, [], ◌∷◌, length, get_or, map, slice_get, refl, ap, sym, subst, ◌∙◌, ⊎_elim}
+use Rattle.std.proofs.Common.{ℕ, zero, suc, ◌-◌, ◌<◌, ◌≤◌, ◌≡◌, Bool, true, false, ◌⊎◌, inl, inr, Option, Some, None, List, [], ◌∷◌, length, get_or, map, slice_get, refl, ap, sym, subst, ◌∙◌, ⊎_elim}
 use Rattle.std.specs.Option.{option_map}
 use Rattle.std.proofs.lemmas.Bool.{and_parts, false≢true}
 use Rattle.std.proofs.lemmas.Option.{slice_get_past, slice_get_read, slice_get-map}
@@ -11,14 +11,16 @@ use Rattle.leaf_boxes.specs.declared.bounds.Box3.{Box3}
 use Rattle.leaf_boxes.specs.Boxes.{IsInBox, box_of}
 use Rattle.leaf_boxes.specs.Groups.{AreHeld, box_numbered, shape_box_of}
 use Rattle.leaf_boxes.specs.Holding.{leaf_holds, shape_holds}
+use Rattle.csg_hits.specs.declared.piece.Piece.{Piece}
 use Rattle.csg_hits.specs.declared.ready.ReadyLeaf.{ReadyLeaf}
 use Rattle.csg_hits.specs.declared.ready.ReadyObject.{ReadyObject}
 use Rattle.csg_hits.specs.Bounds.{IsBounded, HoldsInside, bounds_of, box_of_object, holds_of, leaf_at}
 use Rattle.csg_hits.specs.Ready.{leaves_of, objects_of}
-use Rattle.csg_hits.specs.Sides.{differ}
-use Rattle.csg_hits.specs.Surfaces.{counts, crossing_of, is_gate, leaf_on, shape_on}
+use Rattle.csg_hits.specs.Pieces.{piece_struck, strikes_of}
+use Rattle.csg_hits.specs.Sides.{differ, sides}
+use Rattle.csg_hits.specs.Surfaces.{counts, crossing_of, is_gate, leaf_on}
 use Rattle.csg_hits.proofs.Bounded.{AreBoxed, around}
-use Rattle.csg_hits.proofs.Numbered.{no_object, object_struck, plain}
+use Rattle.csg_hits.proofs.Numbered.{plain}
 
 abbrev pub extents : List ReadyLeaf → List Box3
 extents leaves = map (λ leaf. leaf.bounds) leaves
@@ -105,15 +107,20 @@ pub inside_nowhere : (leaves : List Leaf) (objects : List ReadyObject) (n : ℕ)
 inside_nowhere leaves objects n found past = λ p within has.
     let P : Option Object → Type 0 = λ o. holds_of leaves o p ≡ true in absurd (false≢true (subst P (no_object_at objects n past) has))
 
--- and one of the two points between which the object is struck
-pub struck_there : (leaves : List ReadyLeaf) (objects : List ReadyObject) (n : ℕ) (x : ReadyObject) (found : Box3) → n < length objects → x ≡ get_or objects n x → found ≡ shape_box_of (extents leaves) x.shape
-    → IsBounded (plain (leaves_of leaves) objects) n found
-struck_there leaves objects n x found lt e is = λ ray shadow t m positive here there h.
-    let all : Bool = (shape_on (leaves_of leaves) ray x.shape t).strikes m in
-    let k : (counts shadow x.object.value.no_shadow && all) ≡ true = sym (object_struck (leaves_of leaves) objects ray shadow n x lt e x.alike t m) ∙ h in
+-- ---- pieces
+
+-- the box of a piece's shape has one of the two points between which the piece is struck
+pub piece_bounded : (leaves : List ReadyLeaf) (pieces : List Piece) (n : ℕ) (x : Piece) (found : Box3) → n < length pieces → x ≡ get_or pieces n x → found ≡ shape_box_of (extents leaves) x.shape
+    → IsBounded (record { leaves = leaves_of leaves; pieces = pieces }) n found
+piece_bounded leaves pieces n x found lt e is = λ ray shadow t m positive here there h.
+    let f = leaf_on (leaves_of leaves) ray t in
+    let at : slice_get pieces n ≡ Some x = slice_get_read pieces (length pieces) n x refl lt e in
+    let O : Option Piece → Type 0 = λ o. piece_struck f shadow m o ≡ true in
+    let k : strikes_of f shadow x m ≡ true = subst O at h in
     let P : Box3 → Type 0 = λ b. IsInBox b (point_at ray (t - 1)) ⊎ IsInBox b (point_at ray t) in
     subst P (sym is)
-    ((around (extents leaves) (leaf_on (leaves_of leaves) ray t) (point_at ray (t - 1)) (point_at ray t) (boxed leaves ray t here there) x.shape).struck m (and_parts (counts shadow x.object.value.no_shadow) all k).1)
+    ((around (extents leaves) f (point_at ray (t - 1)) (point_at ray t) (boxed leaves ray t here there) x.shape).struck m (and_parts (counts shadow x.no_shadow) ((sides f x.shape).strikes m) k).1)
 
-pub struck_nowhere : (leaves : List Leaf) (objects : List ReadyObject) (n : ℕ) (found : Box3) → length objects ≤ n → IsBounded (plain leaves objects) n found
-struck_nowhere leaves objects n found past = λ ray shadow t m positive here there h. absurd (false≢true (sym (no_object leaves objects ray shadow n past t m) ∙ h))
+pub none_bounded : (leaves : List Leaf) (pieces : List Piece) (n : ℕ) (found : Box3) → length pieces ≤ n → IsBounded (record { leaves = leaves; pieces = pieces }) n found
+none_bounded leaves pieces n found past = λ ray shadow t m positive here there h.
+    let O : Option Piece → Type 0 = λ o. piece_struck (leaf_on leaves ray t) shadow m o ≡ true in absurd (false≢true (subst O (slice_get_past pieces n past) h))

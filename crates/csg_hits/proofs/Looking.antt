@@ -33,7 +33,7 @@ outlook_below v w t end o lt e h = record {
       (ap (λ (x : Sides). x.before) (e s c) ∙ p.0 ∙ n, ap (λ (x : Sides). x.now) (e s c) ∙ p.1 ∙ n);
 }
 
-same_outcome : (v w : ℕ → Sides) (t end : ℕ) (o : Outcome) → ((s : ℕ) → w s ≡ v s) → IsOutcome v t end o → IsOutcome w t end o
+pub same_outcome : (v w : ℕ → Sides) (t end : ℕ) (o : Outcome) → ((s : ℕ) → w s ≡ v s) → IsOutcome v t end o → IsOutcome w t end o
 same_outcome v w t end o e h = record {
   before = h.before ∙ ap (λ (x : Sides). x.before) (sym (e t));
   first = (let P : Sides → Type 0 = λ x. IsLeast x.strikes o.first in subst P (sym (e t)) h.first);

@@ -3,9 +3,8 @@ use lib.Dec.{eqb}
 use Rattle.std.proofs.Common.{ℕ, ◌+◌, ◌-◌, ◌<◌, ◌≤◌, ◌≡◌, Bool, true, false, ◌&&◌, not, Option, Some, None, List, [], ◌∷◌, length, get_or, map, slice_get, refl, ap, sym, subst, ◌∙◌, ⊎_elim}
 use Rattle.std.specs.Bool.{beq}
 use Rattle.std.specs.List.{list_any}
-use Rattle.std.specs.Option.{option_map}
 use Rattle.std.proofs.lemmas.Bool.{and_parts, eqb-true, false≢true, or_cases}
-use Rattle.std.proofs.lemmas.Option.{slice_get_past, slice_get_read, slice_get-map}
+use Rattle.std.proofs.lemmas.Option.{slice_get_read}
 use Rattle.scene_model.specs.declared.scene.Object.{Object}
 use Rattle.scene_model.specs.declared.scene.Sheet.{Sheet}
 use Rattle.scene_model.specs.declared.shape.Leaf.{Leaf}
@@ -15,9 +14,11 @@ use Rattle.scene_model.specs.declared.shape.Shape.TheViews.{roll-Shape}
 use Rattle.scene_model.specs.declared.shape.Shape.TheFolds.{fold-roll-Shape, ind-Shape, map-Shape}
 use Rattle.shapes.specs.declared.ray.Ray.{Ray}
 use Rattle.shapes.specs.Rays.{Position, point_at}
+use Rattle.csg_hits.specs.declared.piece.Piece.{Piece}
 use Rattle.csg_hits.specs.declared.ready.ReadyObject.{ReadyObject}
+use Rattle.csg_hits.specs.Pieces.{Pieces, is_piece_struck, owner, owner_of, piece_struck}
 use Rattle.csg_hits.specs.Ready.{objects_of}
-use Rattle.csg_hits.specs.Sides.{AreAlike, Crossing, Sides, differ, keeps, sides, sides_step, together}
+use Rattle.csg_hits.specs.Sides.{Crossing, Sides, differ, keeps, sides, sides_step, together}
 use Rattle.csg_hits.specs.Surfaces.{Surfaces, counts, crossing_of, enters_at, enters_of, enters_sheet, face_at, face_of, is_gate, is_struck, leaf_holds, leaf_on, sheet_struck, shape_on, solid_holds, struck_of}
 
 abbrev IsTold : (ℕ → Crossing) → ℕ → Shape → Type 0
@@ -98,33 +99,21 @@ never_enters s ray t n none at =
     let P : Option Leaf → Type 0 = λ o. false ≡ enters_of s n o (point_at ray t) in
     let Q : List Sheet → Type 0 = λ xs. false ≡ enters_sheet (slice_get xs (n - length s.leaves)) (point_at ray t) in subst P (sym at) (subst Q (sym none) refl)
 
--- ---- objects by their numbers
+-- ---- objects and pieces by their numbers
 
 abbrev pub plain : List Leaf → List ReadyObject → Surfaces
 plain leaves objects = record { leaves = leaves; objects = objects_of objects; sheets = [] }
 
-pub object_struck : (leaves : List Leaf) (objects : List ReadyObject) (ray : Ray) (shadow : Bool) (n : ℕ) (x : ReadyObject) → n < length objects → x ≡ get_or objects n x → AreAlike x.shape x.object.value.shape → (t m : ℕ)
-    → is_struck (plain leaves objects) ray shadow t n m ≡ (counts shadow x.object.value.no_shadow && (shape_on leaves ray x.shape t).strikes m)
-object_struck leaves objects ray shadow n x lt e alike t m =
-    let v : ReadyObject → Object = λ o. o.object.value in
-    let there : slice_get objects n ≡ Some x = slice_get_read objects (length objects) n x refl lt e in
-    let at : slice_get (objects_of objects) n ≡ Some x.object.value = slice_get-map v objects n ∙ ap (λ (o : Option ReadyObject). option_map v o) there in
-    ap (λ (o : Option Object). struck_of (plain leaves objects) ray shadow t (n - length (objects_of objects)) m o) at
-    ∙ ap (λ (w : Sides). counts shadow x.object.value.no_shadow && w.strikes m) (sym (alike.crossed (leaf_on leaves ray t)))
+abbrev parted : List Leaf → List Piece → Pieces
+parted leaves pieces = record { leaves = leaves; pieces = pieces }
 
-pub counted : (leaves : List Leaf) (objects : List ReadyObject) (ray : Ray) (shadow : Bool) (n : ℕ) (x : ReadyObject) → n < length objects → x ≡ get_or objects n x → AreAlike x.shape x.object.value.shape → counts shadow x.object.value.no_shadow ≡ true
-    → (t m : ℕ) → is_struck (plain leaves objects) ray shadow t n m ≡ (shape_on leaves ray x.shape t).strikes m
-counted leaves objects ray shadow n x lt e alike h t m = object_struck leaves objects ray shadow n x lt e alike t m ∙ ap (λ (b : Bool). b && (shape_on leaves ray x.shape t).strikes m) h
+pub owned : (leaves : List Leaf) (pieces : List Piece) (n : ℕ) (x : Piece) → n < length pieces → x ≡ get_or pieces n x → x.object ≡ owner (parted leaves pieces) n
+owned leaves pieces n x lt e = ap (λ (o : Option Piece). owner_of o) (sym (slice_get_read pieces (length pieces) n x refl lt e))
 
-pub uncounted : (leaves : List Leaf) (objects : List ReadyObject) (ray : Ray) (shadow : Bool) (n : ℕ) (x : ReadyObject) → n < length objects → x ≡ get_or objects n x → AreAlike x.shape x.object.value.shape → counts shadow x.object.value.no_shadow ≡ false
-    → (t m : ℕ) → is_struck (plain leaves objects) ray shadow t n m ≡ false
-uncounted leaves objects ray shadow n x lt e alike h t m = object_struck leaves objects ray shadow n x lt e alike t m ∙ ap (λ (b : Bool). b && (shape_on leaves ray x.shape t).strikes m) h
-
-pub no_object : (leaves : List Leaf) (objects : List ReadyObject) (ray : Ray) (shadow : Bool) (n : ℕ) → length objects ≤ n → (t m : ℕ) → is_struck (plain leaves objects) ray shadow t n m ≡ false
-no_object leaves objects ray shadow n past t m =
-    let v : ReadyObject → Object = λ o. o.object.value in
-    let at : slice_get (objects_of objects) n ≡ None = slice_get-map v objects n ∙ ap (λ (o : Option ReadyObject). option_map v o) (slice_get_past objects n past) in
-    ap (λ (o : Option Object). struck_of (plain leaves objects) ray shadow t (n - length (objects_of objects)) m o) at
+pub counted : (leaves : List Leaf) (pieces : List Piece) (ray : Ray) (shadow : Bool) (n : ℕ) (x : Piece) → n < length pieces → x ≡ get_or pieces n x → counts shadow x.no_shadow ≡ true
+    → (t m : ℕ) → is_piece_struck (parted leaves pieces) ray shadow t n m ≡ (shape_on leaves ray x.shape t).strikes m
+counted leaves pieces ray shadow n x lt e h t m =
+    ap (λ (o : Option Piece). piece_struck (leaf_on leaves ray t) shadow m o) (slice_get_read pieces (length pieces) n x refl lt e) ∙ ap (λ (b : Bool). b && (shape_on leaves ray x.shape t).strikes m) h
 
 -- a place of a list that is another one
 pub read_in : {A : Type 0} (xs list : List A) (n : ℕ) (x : A) → list ≡ xs → n < length list → x ≡ get_or list n x → (n < length xs) × (x ≡ get_or xs n x)

@@ -1,5 +1,5 @@
 -- The row of a leaf, from the stretches of its solid and of its side.
-use Rattle.std.proofs.Common.{ℕ, ◌-◌, ◌<◌, ◌≡◌, Bool, true, false, ◌&&◌, ◌||◌, not, Option, Some, None, ap, sym, ◌∙◌, arith}
+use Rattle.std.proofs.Common.{ℕ, ◌-◌, ◌<◌, ◌≡◌, Bool, true, false, ◌&&◌, ◌||◌, not, Option, Some, None, refl, ap, sym, ◌∙◌, arith}
 use Rattle.std.specs.Prelude.{nat_lt}
 use Rattle.std.proofs.lemmas.Bool.Decides.{nat_tests}
 use Rattle.scene_model.specs.declared.shape.Leaf.{Leaf}
@@ -9,7 +9,8 @@ use Rattle.shapes.specs.Faces.{faces_of}
 use Rattle.shapes.specs.Lines.{is_in_stretches}
 use Rattle.shapes.specs.Rays.{Position, point_at}
 use Rattle.shapes.specs.Solids.{is_uncapped}
-use Rattle.csg_hits.specs.Rows.{IsRowOf, row_crossing, side_crossed}
+use Rattle.csg_hits.specs.declared.row.Row.{Row}
+use Rattle.csg_hits.specs.Rows.{IsRowOf, row_crossing, row_holds, side_crossed}
 use Rattle.csg_hits.specs.Sides.{Crossing, differ}
 use Rattle.csg_hits.specs.Surfaces.{first_holds, is_gate, leaf_crossing, leaf_holds, solid_holds}
 
@@ -59,3 +60,25 @@ open_row leaf ray end inside side inverse holds turned uncapped beside =
     ap (λ (b : Bool). differ b (is_in_stretches side t)) (beside (t - 1) (omega arith))
     ∙ ap (λ (b : Bool). differ (first_holds (faces_of leaf (point_at ray (t - 1)))) b) (beside t lt)
     ∙ ap (λ (b : Bool). not b || differ (first_holds (faces_of leaf (point_at ray (t - 1)))) (first_holds (faces_of leaf (point_at ray t)))) (sym uncapped))
+
+-- a leaf that holds nowhere on a path
+pub missed_row : (leaf : Leaf) (ray : Ray) (end : ℕ) (row : Row) → ((t : ℕ) → row_holds row t ≡ false) → ((t : ℕ) → t < end → leaf_holds leaf (point_at ray t) ≡ false) → IsRowOf leaf ray end row
+missed_row leaf ray end row none fails = λ t lt.
+    let p : Position = point_at ray (t - 1) in
+    let q : Position = point_at ray t in
+    let e : leaf_holds leaf p ≡ false = fails (t - 1) (omega arith) in
+    let f : leaf_holds leaf q ≡ false = fails t lt in
+    let quiet : (differ (row_holds row (t - 1)) (row_holds row t) && side_crossed row.side t) ≡ false =
+    ap (λ (b : Bool). differ b (row_holds row t) && side_crossed row.side t) (none (t - 1)) ∙ ap (λ (b : Bool). differ false b && side_crossed row.side t) (none t) in
+    let still : (differ (leaf_holds leaf p) (leaf_holds leaf q) && is_gate leaf p q) ≡ false =
+    ap (λ (b : Bool). differ b (leaf_holds leaf q) && is_gate leaf p q) e ∙ ap (λ (b : Bool). differ false b && is_gate leaf p q) f in
+    same_crossing (row_crossing row t) (leaf_crossing leaf p q) (none (t - 1) ∙ sym e) (none t ∙ sym f) (quiet ∙ sym still)
+
+-- a test that says the contrary
+pub fails : (b : Bool) → ¬ (b ≡ true) → b ≡ false
+fails true h = absurd (h refl)
+fails false h = refl
+
+pub turned : (b : Bool) → not b ≡ true → b ≡ false
+turned true e = sym e
+turned false e = refl

@@ -1,4 +1,4 @@
--- The boxes of a scene's objects: what they are, and what lies in them.
+-- The boxes of a scene's objects and of their pieces: what they are, and what lies in them.
 use Rattle.std.specs.Prelude.{ℕ, ◌≡◌, ◌-◌, ◌≤◌, ◌⊎◌, Bool, true, false, Option, Some, None, List, map, slice_get}
 use Rattle.scene_model.specs.declared.scene.Object.{Object}
 use Rattle.scene_model.specs.declared.shape.Leaf.{Leaf}
@@ -8,7 +8,8 @@ use Rattle.leaf_boxes.specs.declared.bounds.Box3.{Box3}
 use Rattle.leaf_boxes.specs.Boxes.{IsInBox, box_of, world}
 use Rattle.leaf_boxes.specs.Groups.{shape_box_of}
 use Rattle.leaf_boxes.specs.Holding.{leaf_holds, shape_holds}
-use Rattle.csg_hits.specs.Surfaces.{Surfaces, is_struck}
+use Rattle.csg_hits.specs.Pieces.{Pieces, is_piece_struck}
+use Rattle.csg_hits.specs.Surfaces.{Surfaces}
 
 -- ---- where objects hold
 
@@ -42,8 +43,8 @@ bounds_of s object = box_of_object s.leaves (slice_get s.objects object)
 abbrev pub HoldsInside : Surfaces → ℕ → Box3 → Type 0
 HoldsInside s object box = (p : Position) → IsInWorld p → object_holds s object p ≡ true → IsInBox box p
 
--- where an object is struck between two points of the world, one of the two lies in the box
-abbrev pub IsBounded : Surfaces → ℕ → Box3 → Type 0
-IsBounded s object box =
-    (ray : Ray) (shadow : Bool) (t leaf : ℕ) → 1 ≤ t → IsInWorld (point_at ray (t - 1)) → IsInWorld (point_at ray t) → is_struck s ray shadow t object leaf ≡ true
+-- where a piece is struck between two points of the world, one of the two lies in the box
+abbrev pub IsBounded : Pieces → ℕ → Box3 → Type 0
+IsBounded s piece box =
+    (ray : Ray) (shadow : Bool) (t leaf : ℕ) → 1 ≤ t → IsInWorld (point_at ray (t - 1)) → IsInWorld (point_at ray t) → is_piece_struck s ray shadow t piece leaf ≡ true
     → IsInBox box (point_at ray (t - 1)) ⊎ IsInBox box (point_at ray t)

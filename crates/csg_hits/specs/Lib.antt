@@ -1,9 +1,10 @@
-pub mod Strikes
-pub mod Nearest
 pub mod Sides
 pub mod Surfaces
+pub mod Pieces
 pub mod Hits
 pub mod Rows
 pub mod Outlooks
+pub mod Kept
 pub mod Ready
 pub mod Bounds
+pub mod Searches

@@ -1,5 +1,5 @@
 -- What is known of a shape at a number and behind it, and how groups come by it.
-use Rattle.std.specs.Prelude.{ℕ, ◌≡◌, ◌<◌, ◌≤◌, ◌-◌, ◌^◌, Bool, true, false, ◌&&◌, ◌||◌, not, Option, Some, None, min, nat_eq, if◌then◌else◌}
+use Rattle.std.specs.Prelude.{ℕ, ◌≡◌, ◌<◌, ◌≤◌, ◌-◌, ◌^◌, Bool, true, false, ◌&&◌, ◌||◌, not, Option, Some, None}
 use Rattle.scene_model.specs.declared.shape.Op.{Op}
 use Rattle.csg_hits.specs.declared.outlook.Outcome.{Outcome}
 use Rattle.csg_hits.specs.declared.outlook.Outlook.{Outlook}
@@ -66,11 +66,6 @@ pub record IsOutcomeGroup (op : Op) (inverse : Bool) (all outcome : Outcome) : T
 -- a group of this kind that doesn't hold with its first parts doesn't hold with any further one
 abbrev pub Settles : Op → Type 0
 Settles op = (part : Bool) → joined op false part ≡ false
-
--- the first leaf of two strikes, of which the second isn't later
-abbrev pub first_leaf_of : Option Strike → Strike → ℕ
-first_leaf_of None strike = strike.leaf
-first_leaf_of (Some best) strike = if nat_eq best.t strike.t then min best.leaf strike.leaf else strike.leaf
 
 pub record IsSettled (op : Op) (end : ℕ) (all : Outlook) : Type 0 where
   pub kind : Settles op

@@ -1,22 +1,31 @@
 // The first strike of a shape on a path.
 ghost use Rattle.std.specs.Prelude.{◌≡◌, ℕ, ◌<◌, ◌≤◌, length, IfSome, IfNone};
-ghost use Rattle.csg_hits.specs.Outlooks.{IsFirstIn, IsOutlook, IsQuiet, first_leaf_of};
+ghost use Rattle.box_probe.specs.Probes.{IsProbe};
+ghost use Rattle.csg_hits.specs.Outlooks.{IsFirstIn, IsOutlook, IsQuiet};
 ghost use Rattle.csg_hits.specs.Ready.{leaves_of};
 ghost use Rattle.csg_hits.specs.Rows.{IsFilled, IsRight};
 ghost use Rattle.csg_hits.specs.Surfaces.{shape_on};
 
-use crate::group::takes_all;
 use crate::outlook::Outlook;
 use crate::ready::ReadyLeaf;
 use crate::row::Row;
 use crate::search::{Strike, first_of_leaf, first_of_shape};
+use box_probe::Probe;
 use scene_model::Shape;
 use shapes::Path;
 
 /// Writes the rows that say how a shape is behind t, and tells what it is at t. Parts that don't matter
 /// since the group fails on all the path aren't asked.
-fn fill(shape: &Shape, leaves: &[ReadyLeaf], path: &Path, rows: &mut [Row], t: u64) -> Outlook
+fn fill(
+    shape: &Shape,
+    leaves: &[ReadyLeaf],
+    path: &Path,
+    probe: &Probe,
+    rows: &mut [Row],
+    t: u64,
+) -> Outlook
     requires room { length rows.old ≡ length leaves.now }
+    requires probe { IsProbe probe.now path.now.ray }
     requires begun { t < path.now.end }
     ensures kept { (n : ℕ) → IsRight (leaves_of leaves.now) path.now.ray path.now.end rows.old n
         → IsRight (leaves_of leaves.now) path.now.ray path.now.end rows.new n }
@@ -27,7 +36,7 @@ fn fill(shape: &Shape, leaves: &[ReadyLeaf], path: &Path, rows: &mut [Row], t: u
     match shape {
         Shape::Leaf(number) => match leaves.get(*number as usize) {
             Some(leaf) => {
-                let row = leaf.row(path);
+                let row = leaf.row(path, probe);
                 rows[*number as usize] = row;
                 Outlook::of_row(&row, *number, t)
             }
@@ -36,7 +45,7 @@ fn fill(shape: &Shape, leaves: &[ReadyLeaf], path: &Path, rows: &mut [Row], t: u
         Shape::Group { op, parts, inverse } => {
             let mut all = Outlook::never();
             for (index, part) in parts.iter().enumerate() {
-                let found = fill(part, leaves, path, rows, t);
+                let found = fill(part, leaves, path, probe, rows, t);
                 all = all.with_part(index, *op, found);
                 if all.is_settled(*op, path.end) {
                     return all.as_group(*op, *inverse);
@@ -52,10 +61,12 @@ fn first_of_group(
     shape: &Shape,
     leaves: &[ReadyLeaf],
     path: &Path,
+    probe: &Probe,
     rows: &mut [Row],
     from: u64,
 ) -> Option<Strike>
     requires room { length rows.old ≡ length leaves.now }
+    requires probe { IsProbe probe.now path.now.ray }
     requires positive { 1 ≤ from }
     ensures found { IfSome result
         (IsFirstIn (λ t. (shape_on (leaves_of leaves.now) path.now.ray shape.now t).strikes) from path.now.end) }
@@ -66,27 +77,8 @@ fn first_of_group(
     if from >= path.end {
         return None;
     }
-    let start = fill(shape, leaves, path, rows, from - 1).next;
+    let start = fill(shape, leaves, path, probe, rows, from - 1).next;
     first_of_shape(shape, rows, from, start, path.end)
-}
-
-/// The first of two strikes, of which the second isn't later.
-#[inline]
-fn first_of(best: Option<Strike>, strike: Strike) -> Strike
-    ensures t { result.t ≡ strike.t }
-    ensures leaf { result.leaf ≡ first_leaf_of best strike }
-{
-    match best {
-        Some(best) => Strike {
-            t: strike.t,
-            leaf: if best.t == strike.t {
-                best.leaf.min(strike.leaf)
-            } else {
-                strike.leaf
-            },
-        },
-        None => strike,
-    }
 }
 
 /// The first strike of a shape, from a number on, on a path.
@@ -94,10 +86,12 @@ pub fn first_on_path(
     shape: &Shape,
     leaves: &[ReadyLeaf],
     path: &Path,
+    probe: &Probe,
     rows: &mut [Row],
     from: u64,
 ) -> Option<Strike>
     requires room { length rows.old ≡ length leaves.now }
+    requires probe { IsProbe probe.now path.now.ray }
     requires positive { 1 ≤ from }
     ensures found { IfSome result
         (IsFirstIn (λ t. (shape_on (leaves_of leaves.now) path.now.ray shape.now t).strikes) from path.now.end) }
@@ -107,23 +101,9 @@ pub fn first_on_path(
 {
     match shape {
         Shape::Leaf(number) => match leaves.get(*number as usize) {
-            Some(leaf) => first_of_leaf(&leaf.row(path), *number, from, path.end),
+            Some(leaf) => first_of_leaf(&leaf.row(path, probe), *number, from, path.end),
             None => None,
         },
-        Shape::Group { op, parts, .. } => {
-            if takes_all(*op) {
-                let mut near = *path;
-                let mut best = None;
-                for part in parts {
-                    if let Some(strike) = first_on_path(part, leaves, &near, rows, from) {
-                        near = near.up_to(strike.t + 1);
-                        best = Some(first_of(best, strike));
-                    }
-                }
-                best
-            } else {
-                first_of_group(shape, leaves, path, rows, from)
-            }
-        }
+        Shape::Group { .. } => first_of_group(shape, leaves, path, probe, rows, from),
     }
 }

@@ -155,6 +155,9 @@ impl Outcome {
         requires { 1 ≤ t }
         ensures { (end : ℕ) → IsOutcome (λ s. leaf_sides leaf (row_crossing row.now s)) t end result }
     {
+        if row.is_nowhere() {
+            return Outcome::never();
+        }
         Outcome {
             before: row.holds(t - 1),
             first: first_struck(row, leaf, t),

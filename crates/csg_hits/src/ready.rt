@@ -1,17 +1,20 @@
 // Leaves and objects of a scene, ready to be met by rays.
-ghost use Rattle.std.specs.Prelude.{◌≡◌, ℕ, Some, true, IfOk};
+ghost use Rattle.std.specs.Prelude.{◌≡◌, ℕ, ◌<◌, Some, true, false, IfOk};
 ghost use Rattle.scene_model.specs.Solids.{IsLeaf};
 ghost use Rattle.scene_model.specs.declared.shape.Leaf.{Leaf};
 ghost use Rattle.scene_model.specs.declared.scene.Object.{Object};
 ghost use Rattle.shapes.specs.Faces.{all_hold, faces_of};
-ghost use Rattle.shapes.specs.Rays.{IsInWorld, Position, position_of};
+ghost use Rattle.shapes.specs.Rays.{IsInWorld, Position, point_at, position_of};
 ghost use Rattle.shapes.specs.Solids.{is_uncapped, solid_faces, solid_side};
 ghost use Rattle.leaf_boxes.specs.Boxes.{IsInBox, box_of};
+ghost use Rattle.box_probe.specs.Boxes.{IsInBounds};
+ghost use Rattle.box_probe.specs.Probes.{IsProbe};
 ghost use Rattle.csg_hits.specs.Rows.{IsRowOf};
 ghost use Rattle.csg_hits.specs.Sides.{AreAlike, differ};
-ghost use Rattle.csg_hits.specs.Surfaces.{counts, face_of, first_holds, leaf_holds, solid_holds};
+ghost use Rattle.csg_hits.specs.Surfaces.{face_of, first_holds, leaf_holds, solid_holds};
 
 use crate::row::Row;
+use box_probe::{Bounds, Probe};
 use leaf_boxes::{Box3, Boxed, leaf_box};
 use scene_model::{Leaf, Object, Shape};
 use shapes::{Path, Point, Solid, solid};
@@ -26,6 +29,10 @@ pub struct ReadyLeaf {
     inverse: bool,
     pub negated: bool,
     bounds: Box3,
+    /// The same, rounded outward.
+    reach: Bounds,
+    /// Whether that is the whole world, so that no path misses it.
+    everywhere: bool,
     /// The leaf of the scene.
     pub leaf: Snapshot<Leaf>,
     ghost faces: { (p : Position) → solid_faces solid p ≡ faces_of leaf.value p },
@@ -35,21 +42,20 @@ pub struct ReadyLeaf {
     ghost is_negated: { negated ≡ leaf.value.negated },
     ghost is_bounds: { bounds ≡ box_of leaf.value },
     ghost inside: { (p : Position) → IsInWorld p → leaf_holds leaf.value p ≡ true → IsInBox bounds p },
+    ghost within: { (p : Position) → IsInWorld p → leaf_holds leaf.value p ≡ true → IsInBounds reach p },
 }
 
 /// An object with a shape of its own.
 #[derive(Drop)]
 pub struct ReadyObject {
     pub shape: Shape,
-    pub no_shadow: bool,
     /// The object of the scene.
     pub object: Snapshot<Object>,
     ghost alike: { AreAlike shape object.value.shape },
-    ghost shadow: { no_shadow ≡ object.value.no_shadow },
 }
 
 /// A shape like another.
-fn copied(alloc: Global, shape: &Shape) -> Result<Shape, AllocError>
+pub fn copied(alloc: Global, shape: &Shape) -> Result<Shape, AllocError>
     ensures { IfOk result (λ copy. AreAlike copy shape.now) }
 {
     match shape {
@@ -70,14 +76,6 @@ fn copied(alloc: Global, shape: &Shape) -> Result<Shape, AllocError>
 }
 
 impl ReadyObject {
-    /// Whether the object counts: all do, but in a shadow ray those without shadow.
-    #[inline]
-    pub fn counts(&self, shadow: bool) -> bool
-        ensures { result ≡ counts shadow self.now.object.value.no_shadow }
-    {
-        !(shadow && self.no_shadow)
-    }
-
     /// An object of a scene.
     pub fn of(alloc: Global, object: &Object) -> Result<ReadyObject, AllocError>
         ensures { IfOk result (λ ready. ready.object.value ≡ object.now) }
@@ -85,7 +83,6 @@ impl ReadyObject {
         let shape = copied(alloc, &object.shape)?;
         Ok(ReadyObject {
             shape,
-            no_shadow: object.no_shadow,
             object: Snapshot::of(object),
         })
     }
@@ -98,19 +95,46 @@ impl ReadyLeaf {
         ensures { result.leaf.value ≡ leaf.now }
     {
         let solid = solid(leaf);
+        let bounds = leaf_box(leaf);
+        let reach = Bounds::around(&bounds);
         ReadyLeaf {
             solid,
             uncapped: solid.is_open(),
             inverse: leaf.inverse,
             negated: leaf.negated,
-            bounds: leaf_box(leaf),
+            bounds,
+            reach,
+            everywhere: reach.is_world(),
             leaf: Snapshot::of(leaf),
         }
     }
 
-    /// The numbers of a path at which the leaf holds.
-    #[inline]
-    pub fn row(&self, path: &Path) -> Row
+    /// The numbers of a path at which the leaf holds. A leaf whose box the path misses holds nowhere.
+    #[inline(always)]
+    pub fn row(&self, path: &Path, probe: &Probe) -> Row
+        requires { IsProbe probe.now path.now.ray }
+        ensures { IsRowOf self.now.leaf.value path.now.ray path.now.end result }
+    {
+        if self.is_missed(path, probe) {
+            Row::empty()
+        } else {
+            self.whole_row(path)
+        }
+    }
+
+    /// Whether it is known that the leaf holds nowhere on a path.
+    #[inline(always)]
+    fn is_missed(&self, path: &Path, probe: &Probe) -> bool
+        requires { IsProbe probe.now path.now.ray }
+        ensures { result ≡ true → (t : ℕ) → t < path.now.end
+            → leaf_holds self.now.leaf.value (point_at path.now.ray t) ≡ false }
+    {
+        !self.everywhere && !probe.meets_before(&self.reach, path.end)
+    }
+
+    /// The numbers of a path at which the leaf holds, from its solid.
+    #[inline(never)]
+    fn whole_row(&self, path: &Path) -> Row
         ensures { IsRowOf self.now.leaf.value path.now.ray path.now.end result }
     {
         let inside = self.solid.stretches(path);
@@ -129,11 +153,12 @@ impl ReadyLeaf {
     pub fn face_between(&self, before: &Point, here: &Point) -> (u8, bool)
         requires before { IsInWorld (position_of before.now) }
         requires here { IsInWorld (position_of here.now) }
-        requires crossed { differ (solid_holds self.now.leaf.value (position_of before.now))
-            (solid_holds self.now.leaf.value (position_of here.now)) ≡ true }
-        ensures face { Some result.0
-            ≡ face_of (Some self.now.leaf.value) (position_of before.now) (position_of here.now) }
-        ensures entered { result.1 ≡ solid_holds self.now.leaf.value (position_of here.now) }
+        ensures face { differ (solid_holds self.now.leaf.value (position_of before.now))
+            (solid_holds self.now.leaf.value (position_of here.now)) ≡ true
+            → Some result.0 ≡ face_of (Some self.now.leaf.value) (position_of before.now) (position_of here.now) }
+        ensures entered { differ (solid_holds self.now.leaf.value (position_of before.now))
+            (solid_holds self.now.leaf.value (position_of here.now)) ≡ true
+            → result.1 ≡ solid_holds self.now.leaf.value (position_of here.now) }
     {
         match self.solid.failing_face(before) {
             Some(face) => (face, true),

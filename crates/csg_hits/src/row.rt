@@ -1,5 +1,5 @@
 // The numbers of a path at which a leaf holds.
-ghost use Rattle.std.specs.Prelude.{◌≡◌, ℕ, ◌<◌, ◌≤◌, ◌^◌, ◌-◌};
+ghost use Rattle.std.specs.Prelude.{◌≡◌, ℕ, ◌<◌, ◌≤◌, ◌^◌, ◌-◌, true, false};
 ghost use Rattle.shapes.specs.Lines.{is_in_span};
 ghost use Rattle.csg_hits.specs.Rows.{row_crossing, row_holds, side_crossed};
 
@@ -43,7 +43,10 @@ fn crosses(side: &Option<Stretches>, t: u64) -> bool
 
 impl Row {
     /// The row of a leaf that holds nowhere.
-    pub fn empty() -> Row {
+    #[inline]
+    pub fn empty() -> Row
+        ensures { (t : ℕ) → row_holds result t ≡ false }
+    {
         let none = Span { from: 0, end: 0 };
         Row {
             inside: Stretches {
@@ -53,6 +56,14 @@ impl Row {
             side: None,
             inverse: false,
         }
+    }
+
+    /// Whether it is seen at once that the leaf holds nowhere.
+    #[inline(always)]
+    pub fn is_nowhere(&self) -> bool
+        ensures { result ≡ true → (t : ℕ) → row_holds self.now t ≡ false }
+    {
+        self.inside.one.end == 0 && self.inside.two.end == 0 && !self.inverse
     }
 
     /// Whether the leaf holds at t.

@@ -4,14 +4,11 @@ ghost use Rattle.shapes.specs.Rays.{IsRayDirection};
 ghost use Rattle.csg_hits.specs.Hits.{Fits, IsHit, IsNearest};
 ghost use Rattle.csg_hits.specs.Ready.{surfaces_in};
 
+use crate::asking::Search;
 use crate::built::Built;
 use crate::scratch::Scratch;
-use crate::search::Strike;
-use shapes::{Path, Ray};
+use shapes::Ray;
 use std::alloc::{AllocError, Global};
-
-/// How far a ray goes, at least, before it can hit: so it doesn't hit the surface where it begins.
-const NEAR: u64 = 64;
 
 /// A crossing of a surface by a ray.
 #[derive(Clone, Copy, Debug, PartialEq, Eq)]
@@ -49,7 +46,7 @@ pub trait World: Drop {
         ensures none { IfNone result ((t object leaf : ℕ) → ¬ IsHit (surfaces self.now) ray.now after shadow t object leaf) };
 }
 
-/// A world that asks each object.
+/// A world that asks each piece.
 #[derive(Drop)]
 pub struct ListWorld {
     built: Built,
@@ -64,14 +61,7 @@ impl ListWorld {
     }
 }
 
-/// An object's strike.
-#[derive(Clone, Copy)]
-struct Found {
-    object: u32,
-    strike: Strike,
-}
-
-/// The nearest hit among all objects.
+/// The nearest hit among all pieces.
 fn nearest_of_all(
     built: &Built,
     s: &mut Scratch,
@@ -85,19 +75,11 @@ fn nearest_of_all(
     ensures nearest { IfSome result (IsNearest (surfaces_in built.now) ray.now after shadow) }
     ensures none { IfNone result ((t object leaf : ℕ) → ¬ IsHit (surfaces_in built.now) ray.now after shadow t object leaf) }
 {
-    let mut path = Path::new(ray)?;
-    let from = after.saturating_add(1).max(NEAR);
-    let mut best = None;
-    for object in 0..built.len() {
-        if let Some(strike) = built.first_strike(s, object, &path, from, shadow) {
-            path = path.up_to(strike.t);
-            best = Some(Found { object, strike });
-        }
+    let mut search = Search::new(ray, after, shadow)?;
+    for piece in 0..built.len() {
+        search.ask(built, s, piece);
     }
-    match best {
-        Some(best) => Some(built.hit(ray, shadow, best.object, best.strike)),
-        None => None,
-    }
+    search.hit(built)
 }
 
 impl World for ListWorld {

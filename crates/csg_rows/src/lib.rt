@@ -16,4 +16,6 @@ mod scenes;
 #[cfg(test)]
 mod singles;
 #[cfg(test)]
+mod split;
+#[cfg(test)]
 mod trees;

@@ -1,8 +1,8 @@
-// The order of objects, halved by the middles of their boxes.
+// The order of pieces, halved by the middles of their boxes.
 ghost use Rattle.std.specs.Prelude.{◌≡◌, ◌≤◌, ◌<◌, ◌+◌, ◌*◌, IsPermutation, length};
 
-use crate::bounds::{Axis, Bounds};
 use crate::node::LEAF;
+use box_probe::{Axis, Bounds};
 
 /// How often a run is split, at most, to halve it.
 const ROUNDS: u32 = 64;
@@ -34,7 +34,7 @@ pub fn arrange(order: &mut [u32], boxes: &[Bounds], cuts: &mut [Axis], first: us
     arrange(order, boxes, cuts, middle, last);
 }
 
-/// Brings the objects with the lowest middles along an axis before a place. It goes on for so many rounds alone, by
+/// Brings the pieces with the lowest middles along an axis before a place. It goes on for so many rounds alone, by
 /// which a run of any length is ordered as far as that, but for very few.
 fn halve(run: &mut [u32], boxes: &[Bounds], axis: Axis, place: usize)
     ensures { IsPermutation run.old run.new }
@@ -64,7 +64,7 @@ struct Sides {
     more: usize,
 }
 
-/// Brings the objects from one place on and before another in order by a pivot: those with a lower middle first, and
+/// Brings the pieces from one place on and before another in order by a pivot: those with a lower middle first, and
 /// those with a higher one last.
 fn split(
     run: &mut [u32],
@@ -100,9 +100,9 @@ fn split(
     Sides { less, more }
 }
 
-/// Twice the middle of an object's box along an axis.
-fn middle(boxes: &[Bounds], object: u32, axis: Axis) -> i64 {
-    match boxes.get(object as usize) {
+/// Twice the middle of a piece's box along an axis.
+fn middle(boxes: &[Bounds], piece: u32, axis: Axis) -> i64 {
+    match boxes.get(piece as usize) {
         Some(bounds) => bounds.middle(axis),
         None => 0,
     }
@@ -126,8 +126,8 @@ fn widest(run: &[u32], boxes: &[Bounds]) -> Axis {
 fn spread(run: &[u32], boxes: &[Bounds], axis: Axis) -> i64 {
     let mut least = i64::MAX;
     let mut most = i64::MIN;
-    for object in run {
-        let middle = middle(boxes, *object, axis);
+    for piece in run {
+        let middle = middle(boxes, *piece, axis);
         least = least.min(middle);
         most = most.max(middle);
     }

@@ -1,14 +1,14 @@
 // How a tree of boxes is made.
 ghost use Rattle.std.specs.Prelude.{◌≡◌, ◌≤◌, ◌<◌, ◌+◌, ◌*◌, ◌^◌, length, vec_len};
-ghost use Rattle.csg_hits.specs.Ready.{surfaces_in};
+ghost use Rattle.csg_hits.specs.Ready.{pieces_in};
 ghost use Rattle.slab_tree.specs.Outlines.{AreBoxes};
 
-use crate::bounds::{Axis, Bounds};
 use crate::node::{LEAF, Node, Track};
+use box_probe::{Axis, Bounds};
 use csg_hits::Built;
 use std::alloc::{AllocError, Global};
 
-/// What a tree is made of: the boxes of all objects, the order of those in the tree, four of them to a leaf, and
+/// What a tree is made of: the boxes of all pieces, the order of those in the tree, four of them to a leaf, and
 /// for each leaf the axis by which those before it were parted from it and those behind.
 #[derive(Drop)]
 pub struct Draft {
@@ -16,7 +16,7 @@ pub struct Draft {
     pub boxes: Vec<Bounds>,
     pub order: Vec<u32>,
     pub cuts: Vec<Axis>,
-    ghost held: { AreBoxes (surfaces_in built) boxes.items },
+    ghost held: { AreBoxes (pieces_in built) boxes.items },
     ghost few: { vec_len order < 2 ^ 32 },
     ghost filled: { vec_len order ≤ 4 * vec_len cuts },
     ghost whole: { 4 * vec_len cuts < vec_len order + 4 },
@@ -46,7 +46,7 @@ impl Draft {
     pub fn tracks(&self, alloc: Global) -> Result<Vec<Track>, AllocError>
         ensures octants { IfOk result (λ tracks. vec_len tracks ≡ 8) }
         ensures each { IfOk result (λ tracks. All
-            (λ track. IsTrack (surfaces_in self.now.built) self.now.order.items track.nodes.items) tracks.items) }
+            (λ track. IsTrack (pieces_in self.now.built) self.now.order.items track.nodes.items) tracks.items) }
     {
         let mut tracks = Vec::new(alloc);
         for octant in 0..8u8 {
@@ -58,7 +58,7 @@ impl Draft {
     /// The tree in the order that suits the rays of an octant.
     fn track(&self, alloc: Global, octant: u8) -> Result<Track, AllocError>
         ensures { IfOk result
-            (λ track. IsTrack (surfaces_in self.now.built) self.now.order.items track.nodes.items) }
+            (λ track. IsTrack (pieces_in self.now.built) self.now.order.items track.nodes.items) }
     {
         let last = self.cuts.len();
         if last == 0 {
@@ -80,8 +80,8 @@ impl Draft {
         ensures len { length nodes.new ≡ length nodes.old }
         ensures kept { (k : ℕ) → (k < place) ⊎ (behind place run.first run.last ≤ k)
             → slice_get nodes.new k ≡ slice_get nodes.old k }
-        ensures planted { IsPlanted (surfaces_in self.now.built) self.now.order.items nodes.new place run.first run.last }
-        ensures around { IsAround (surfaces_in self.now.built) self.now.order.items run.first run.last result }
+        ensures planted { IsPlanted (pieces_in self.now.built) self.now.order.items nodes.new place run.first run.last }
+        ensures around { IsAround (pieces_in self.now.built) self.now.order.items run.first run.last result }
     {
         if run.last - run.first == 1 {
             let bounds = self.leaf_bounds(run.first);
@@ -139,10 +139,10 @@ impl Draft {
         }
     }
 
-    /// The box of a leaf's objects.
+    /// The box of a leaf's pieces.
     fn leaf_bounds(&self, leaf: usize) -> Bounds
         requires { leaf < vec_len self.now.cuts }
-        ensures { IsAround (surfaces_in self.now.built) self.now.order.items leaf (leaf + 1) result }
+        ensures { IsAround (pieces_in self.now.built) self.now.order.items leaf (leaf + 1) result }
     {
         let first = LEAF as usize * leaf;
         let end = (first + LEAF as usize).min(self.order.len());
@@ -153,11 +153,11 @@ impl Draft {
         bounds
     }
 
-    /// An object's box.
-    fn bounds_of(&self, object: u32) -> Bounds
-        ensures { IsHeld (surfaces_in self.now.built) object result }
+    /// A piece's box.
+    fn bounds_of(&self, piece: u32) -> Bounds
+        ensures { IsHeld (pieces_in self.now.built) piece result }
     {
-        match self.boxes.get(object as usize) {
+        match self.boxes.get(piece as usize) {
             Some(bounds) => *bounds,
             None => Bounds::world(),
         }

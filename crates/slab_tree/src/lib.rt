@@ -1,14 +1,14 @@
-//! What a ray hits first in a scene, by a tree of boxes: few of many objects are asked.
+//! What a ray hits first in a scene, by a tree of boxes: few of many pieces are asked.
 #![tactic(auto)]
 
 mod arrange;
-mod bounds;
+#[cfg(test)]
+mod counted;
 mod draft;
 mod node;
 mod outline;
-mod probe;
-mod search;
 mod walk;
+mod watch;
 mod world;
 
 pub use world::SlabWorld;

@@ -1,7 +1,7 @@
 // The nodes of a tree of boxes.
-use crate::bounds::Bounds;
+use box_probe::Bounds;
 
-/// How many objects stand in a leaf, at most.
+/// How many pieces stand in a leaf, at most.
 pub const LEAF: u32 = 4;
 
 /// A box of a tree. The nodes stand in the order in which a walk comes to them.
@@ -10,7 +10,7 @@ pub struct Node {
     pub bounds: Bounds,
     /// The place behind the nodes that stand below this one: there a ray that misses the box goes on.
     pub skip: u32,
-    /// Where a leaf's objects begin in the order of objects; the number of all of them where the node is no leaf.
+    /// Where a leaf's pieces begin in the order of pieces; the number of all of them where the node is no leaf.
     pub start: u32,
 }
 

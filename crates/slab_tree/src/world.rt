@@ -1,44 +1,42 @@
-// A world that asks few of many objects.
+// A world that asks few of many pieces.
 ghost use Rattle.std.specs.Prelude.{◌≡◌, length, vec_len};
 ghost use Rattle.std.specs.List.{All};
 ghost use Rattle.std.proofs.Props.{props};
-ghost use Rattle.csg_hits.specs.Ready.{surfaces_in};
-ghost use Rattle.slab_tree.specs.Outlines.{IsWhole};
+ghost use Rattle.csg_hits.specs.Ready.{pieces_in, surfaces_in};
+ghost use Rattle.slab_tree.specs.Outlines.{AreBoxes, IsWhole};
 ghost use Rattle.slab_tree.specs.Trees.{IsTrack};
 
 use crate::arrange::arrange;
-use crate::bounds::Axis;
 use crate::draft::Draft;
 use crate::node::{LEAF, Track};
 use crate::outline::{Parts, all_bounds, parted};
-use crate::probe::Probe;
-use crate::search::Search;
 use crate::walk::{ask_places, walk};
-use csg_hits::{Built, Hit, Scratch, World};
-use shapes::{Path, Ray};
+use crate::watch::{Unwatched, Watch};
+use box_probe::{Axis, Bounds};
+use csg_hits::{Built, Hit, Scratch, Search, World};
+use shapes::Ray;
 use std::alloc::{AllocError, Global};
 use std::thread::Threads;
 
-/// How far a ray goes, at least, before it can hit: so it doesn't hit the surface where it begins.
-const NEAR: u64 = 64;
-
-/// The world of a scene without its triangles. Its objects stand in the leaves of a tree of boxes, and those
-/// without a bound in a list of their own. A ray asks the objects of the boxes that it meets.
+/// The world of a scene without its triangles. The pieces of its objects stand in the leaves of a tree of boxes,
+/// and those without a bound in a list of their own. A ray asks the pieces of the boxes that it meets.
 #[derive(Drop)]
 pub struct SlabWorld {
     built: Built,
+    boxes: Vec<Bounds>,
     apart: Vec<u32>,
     order: Vec<u32>,
     tracks: Vec<Track>,
-    ghost whole: { IsWhole (length (surfaces_in built).objects) apart.items order.items } by { Prim.hlevel props },
+    ghost held: { AreBoxes (pieces_in built) boxes.items },
+    ghost whole: { IsWhole (length (pieces_in built).pieces) apart.items order.items } by { Prim.hlevel props },
     ghost octants: { vec_len tracks ≡ 8 },
-    ghost each: { All (λ track. IsTrack (surfaces_in built) order.items track.nodes.items) tracks.items } by { Prim.hlevel props },
+    ghost each: { All (λ track. IsTrack (pieces_in built) order.items track.nodes.items) tracks.items } by { Prim.hlevel props },
 }
 
 impl SlabWorld {
     ghost use Rattle.std.specs.Prelude.{ℕ, ◌<◌, IfOk};
     ghost use Rattle.csg_hits.specs.Hits.{Fits};
-    ghost use Rattle.slab_tree.specs.Searches.{IsAsked, IsFurther};
+    ghost use Rattle.csg_hits.specs.Searches.{IsAsked, IsFurther};
 
     /// The world of a scene without its triangles. Err is want of memory.
     pub fn build(
@@ -60,27 +58,43 @@ impl SlabWorld {
             cuts,
         };
         let tracks = draft.tracks(alloc)?;
-        let Draft { built, order, .. } = draft;
+        let Draft {
+            built,
+            boxes,
+            order,
+            ..
+        } = draft;
         Ok(SlabWorld {
             built,
+            boxes,
             apart,
             order,
             tracks,
         })
     }
 
-    /// Asks all objects that a ray may hit first.
-    fn search(&self, s: &mut Scratch, search: &mut Search)
+    /// Asks all pieces that a ray may hit first.
+    pub(crate) fn search<W: Watch>(&self, s: &mut Scratch, search: &mut Search, watch: &mut W)
         requires { Fits (surfaces_in self.now.built) s.old }
         ensures fits { Fits (surfaces_in self.now.built) s.new }
-        ensures further { IsFurther (surfaces_in self.now.built) search.old search.new }
-        ensures asked { (object : ℕ) → object < length (surfaces_in self.now.built).objects
-            → IsAsked (surfaces_in self.now.built) search.new object }
+        ensures further { IsFurther (pieces_in self.now.built) search.old search.new }
+        ensures asked { (piece : ℕ) → piece < length (pieces_in self.now.built).pieces
+            → IsAsked (pieces_in self.now.built) search.new piece }
     {
-        ask_places(&self.built, &self.apart, 0, self.apart.len(), s, search);
-        let probe = Probe::new(&search.path);
-        let track = &self.tracks[probe.octant()];
-        walk(&self.built, &self.order, &track.nodes, &probe, s, search);
+        let built = &self.built;
+        let boxes = &self.boxes;
+        ask_places(
+            built,
+            boxes,
+            &self.apart,
+            0,
+            self.apart.len(),
+            s,
+            search,
+            watch,
+        );
+        let track = &self.tracks[search.probe.octant()];
+        walk(built, boxes, &self.order, &track.nodes, s, search, watch);
     }
 }
 
@@ -88,7 +102,7 @@ ghost use Rattle.std.specs.Prelude.{ℕ, IfSome, IfNone};
 ghost use Rattle.shapes.specs.Rays.{IsRayDirection};
 ghost use Rattle.csg_hits.specs.Hits.{Fits, IsHit, IsNearest};
 
-/// The nearest hit among all objects.
+/// The nearest hit among all pieces.
 fn nearest_of_tree(
     world: &SlabWorld,
     s: &mut Scratch,
@@ -102,14 +116,9 @@ fn nearest_of_tree(
     ensures nearest { IfSome result (IsNearest (surfaces_in world.now.built) ray.now after shadow) }
     ensures none { IfNone result ((t object leaf : ℕ) → ¬ IsHit (surfaces_in world.now.built) ray.now after shadow t object leaf) }
 {
-    let path = Path::new(ray)?;
-    let from = after.saturating_add(1).max(NEAR);
-    let mut search = Search::new(path, from, shadow);
-    world.search(s, &mut search);
-    match search.best {
-        Some(best) => Some(world.built.hit(ray, shadow, best.object, best.strike)),
-        None => None,
-    }
+    let mut search = Search::new(ray, after, shadow)?;
+    world.search(s, &mut search, &mut Unwatched);
+    search.hit(&world.built)
 }
 
 impl World for SlabWorld {

@@ -1,6 +1,6 @@
 use Rattle.std.proofs.Common.{ap, sym, ◌∙◌, arith}
 use Rattle.csg_hits.specs.Sides.{Sides}
-use Rattle.csg_hits.proofs.Unions.{same_first, same_quiet}
+use Rattle.csg_hits.proofs.Firsts.{same_first, same_quiet}
 use Rattle.csg_hits.proofs.fill.first_of_group.Goals as goal
 
 pub first_of_shape-requires-clause-quiet : goal.first_of_shape-requires-clause-quiet

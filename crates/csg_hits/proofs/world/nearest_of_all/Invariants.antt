@@ -1,12 +1,12 @@
-use Rattle.std.proofs.Common.{◌≡◌}
+use Rattle.std.proofs.Common.{ℕ, ◌<◌}
 use Rattle.csg_hits.specs.Hits.{Fits}
-use Rattle.csg_hits.specs.Ready.{surfaces_in}
-use Rattle.csg_hits.proofs.Scanned.{IsScanned}
+use Rattle.csg_hits.specs.Ready.{pieces_in, surfaces_in}
+use Rattle.csg_hits.specs.Searches.{IsAsked, IsFurther}
 use Rattle.csg_hits.proofs.world.nearest_of_all.Given as goal
 
-abbrev pub invariant-loop-object : goal.invariant-loop-object
-invariant-loop-object l = record {
-  ray : l.path.ray ≡ l.fn.ray;
+abbrev pub invariant-loop-piece : goal.invariant-loop-piece
+invariant-loop-piece l = record {
   fits : Fits (surfaces_in l.built) l.s;
-  scanned : IsScanned (surfaces_in l.built) l.fn.ray l.fn.after l.shadow l.object l.path.end l.best;
+  further : IsFurther (pieces_in l.built) l.initial.search l.search;
+  asked : (n : ℕ) → n < l.piece → IsAsked (pieces_in l.built) l.search n;
 }

@@ -1,5 +1,5 @@
 use Rattle.slab_tree.specs.Outlines.{IsWhole}
 use Rattle.slab_tree.proofs.outline.parted.Given as goal
 
-abbrev pub invariant-loop-object : goal.invariant-loop-object
-invariant-loop-object l = IsWhole l.object l.apart.items l.order.items
+abbrev pub invariant-loop-piece : goal.invariant-loop-piece
+invariant-loop-piece l = IsWhole l.piece l.apart.items l.order.items

@@ -19,6 +19,7 @@ invariant_of-result c =
       is_uncapped = uncapped;
       is_inverse = ap (λ (l : Leaf). l.inverse) (sym c.of.ensures);
       is_negated = ap (λ (l : Leaf). l.negated) (sym c.of.ensures);
-      is_bounds = c.leaf_box.ensures.value ∙ ap (λ (l : Leaf). box_of l) (sym c.of.ensures);
-      inside = λ p within has. c.leaf_box.ensures.inside p within (ap (λ (l : Leaf). leaf_holds l p) (sym c.of.ensures) ∙ has);
+      is_bounds = c.leaf_box-bounds.ensures.value ∙ ap (λ (l : Leaf). box_of l) (sym c.of.ensures);
+      inside = λ p within has. c.leaf_box-bounds.ensures.inside p within (ap (λ (l : Leaf). leaf_holds l p) (sym c.of.ensures) ∙ has);
+      within = λ p world has. c.around-reach.ensures p world (c.leaf_box-bounds.ensures.inside p world (ap (λ (l : Leaf). leaf_holds l p) (sym c.of.ensures) ∙ has));
     }

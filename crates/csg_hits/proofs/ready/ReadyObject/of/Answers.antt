@@ -12,5 +12,4 @@ invariant_of-result c = record {
     held = λ leaf. c.in_ok-shape.ensures.held leaf ∙ ap (λ (o : Object). shape_holds leaf o.shape) (sym c.of.ensures);
     boxed = λ boxes. c.in_ok-shape.ensures.boxed boxes ∙ ap (λ (o : Object). shape_box_of boxes o.shape) (sym c.of.ensures);
   };
-  shadow = ap (λ (o : Object). o.no_shadow) (sym c.of.ensures);
 }

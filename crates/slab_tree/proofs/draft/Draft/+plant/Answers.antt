@@ -1,5 +1,5 @@
 use Rattle.std.proofs.Common.{refl, ◌≡◌, ◌≤◌, ◌<◌, ◌+◌, ◌-◌, ◌*◌, ◌⊎◌, ℕ, length, slice_get, subst, ◌∙◌, arith}
-use Rattle.csg_hits.specs.Ready.{surfaces_in}
+use Rattle.csg_hits.specs.Ready.{pieces_in}
 use Rattle.slab_tree.specs.declared.node.Node.{Node}
 use Rattle.slab_tree.specs.Trees.{IsAround, IsPlanted, behind}
 use Rattle.slab_tree.proofs.Outlining.{wider}
@@ -9,11 +9,11 @@ use Rattle.slab_tree.proofs.draft.Draft.+plant.Goals as goal
 pub returns-then-run-eq1-clause-planted : goal.returns-then-run-eq1-clause-planted
 returns-then-run-eq1-clause-planted t c =
     let root : Node = record { bounds = c.leaf_bounds-bounds.result; skip = c.args.place + 1; start = 4 * c.args.run.first } in
-    leaf_written (surfaces_in c.args.self.now.built) c.args.self.now.order.items c.args.nodes.now c.args.place c.args.run.first c.args.run.last root c.if-run-eq1.true
+    leaf_written (pieces_in c.args.self.now.built) c.args.self.now.order.items c.args.nodes.now c.args.place c.args.run.first c.args.run.last root c.if-run-eq1.true
     (let k = c.requires.room in let m = c.if-run-eq1.true in omega arith) refl refl c.leaf_bounds-bounds.ensures
 
 pub returns-then-run-eq1-clause-around : goal.returns-then-run-eq1-clause-around
-returns-then-run-eq1-clause-around t c = leaf_around (surfaces_in c.args.self.now.built) c.args.self.now.order.items c.args.run.first c.args.run.last c.leaf_bounds-bounds.result c.if-run-eq1.true c.leaf_bounds-bounds.ensures
+returns-then-run-eq1-clause-around t c = leaf_around (pieces_in c.args.self.now.built) c.args.self.now.order.items c.args.run.first c.args.run.last c.leaf_bounds-bounds.result c.if-run-eq1.true c.leaf_bounds-bounds.ensures
 
 pub returns-clause-kept : goal.returns-clause-kept
 returns-clause-kept t c =
@@ -28,7 +28,7 @@ returns-clause-kept t c =
 
 pub returns-clause-planted : goal.returns-clause-planted
 returns-clause-planted t c =
-    let s = surfaces_in c.args.self.now.built in
+    let s = pieces_in c.args.self.now.built in
     let order = c.args.self.now.order.items in
     let a = c.halves.result.near.first in
     let b = c.halves.result.near.last in
@@ -41,7 +41,7 @@ returns-clause-planted t c =
     let near = c.plant-near_bounds.result in
     let whole = c.hull-bounds.result in
     let around : IsAround s order c.args.run.first c.args.run.last whole = hulled s order c.args.run.first c.args.run.last a b d e near c.plant-far_bounds.result whole h
-    (λ object. wider s object near whole c.hull-bounds.ensures.first) (λ object. wider s object c.plant-far_bounds.result whole c.hull-bounds.ensures.second) c.plant-near_bounds.ensures.around c.plant-far_bounds.ensures.around in
+    (λ piece. wider s piece near whole c.hull-bounds.ensures.first) (λ piece. wider s piece c.plant-far_bounds.result whole c.hull-bounds.ensures.second) c.plant-near_bounds.ensures.around c.plant-far_bounds.ensures.around in
     let root : Node = record { bounds = c.hull-bounds.result; skip = c.args.place + 2 * (c.args.run.last - c.args.run.first) - 1; start = c.len.result } in
     let skip : root.skip ≡ behind c.args.place c.args.run.first c.args.run.last = omega (arith, c.requires.some) in
     let start : root.start ≡ length order = omega (arith, c.len.ensures, c.args.self.now.order.ok.0) in
@@ -51,9 +51,9 @@ returns-clause-planted t c =
 
 pub returns-clause-around : goal.returns-clause-around
 returns-clause-around t c =
-    let s = surfaces_in c.args.self.now.built in
+    let s = pieces_in c.args.self.now.built in
     let order = c.args.self.now.order.items in
     let near = c.plant-near_bounds.result in
     let whole = c.hull-bounds.result in
     hulled s order c.args.run.first c.args.run.last c.halves.result.near.first c.halves.result.near.last c.halves.result.far.first c.halves.result.far.last near c.plant-far_bounds.result whole c.halves.ensures
-    (λ object. wider s object near whole c.hull-bounds.ensures.first) (λ object. wider s object c.plant-far_bounds.result whole c.hull-bounds.ensures.second) c.plant-near_bounds.ensures.around c.plant-far_bounds.ensures.around
+    (λ piece. wider s piece near whole c.hull-bounds.ensures.first) (λ piece. wider s piece c.plant-far_bounds.result whole c.hull-bounds.ensures.second) c.plant-near_bounds.ensures.around c.plant-far_bounds.ensures.around

@@ -1,6 +1,6 @@
 use Rattle.std.proofs.Common.{◌≡◌, ◌≤◌, ◌*◌, List, length, sym, subst, arith}
 use Rattle.std.proofs.lemmas.List.{take_at}
-use Rattle.csg_hits.specs.Ready.{surfaces_in}
+use Rattle.csg_hits.specs.Ready.{pieces_in}
 use Rattle.slab_tree.specs.declared.node.Node.{Node}
 use Rattle.slab_tree.specs.Trees.{IsTrack, behind}
 use Rattle.slab_tree.proofs.Planting.{track_of}
@@ -9,7 +9,7 @@ use Rattle.slab_tree.proofs.draft.Draft.track.Goals as goal
 pub returns : goal.returns
 returns c =
     let d = c.args.self.now in
-    let s = surfaces_in d.built in
+    let s = pieces_in d.built in
     let order = d.order.items in
     let xs = c.plant.new.nodes in
     let long : c.in_ok-nodes.nodes.len ≡ length xs = omega (arith, c.plant.ensures.len, c.deref_mut.ensures.len) in
