@@ -90,6 +90,12 @@ look_there scene ray hit leaf p look at e h =
     let P : Option Leaf → Type 0 = λ o. leaf_look scene (point_at ray hit.t) o ≡ Some look in
     let Q : Position → Type 0 = λ q. look_in scene leaf.texture q ≡ Some look in subst P (sym at) (subst Q e h)
 
+pub looks_there : (scene : Scene) (ray : Ray) (hit : Hit) (leaf : Leaf) (p : Position) (look : Look) → slice_get scene.leaves.items hit.leaf ≡ Some leaf → p ≡ point_at ray hit.t → look_at scene ray hit ≡ Some look
+    → look_in scene leaf.texture p ≡ Some look
+looks_there scene ray hit leaf p look at e h =
+    let P : Option Leaf → Type 0 = λ o. leaf_look scene (point_at ray hit.t) o ≡ Some look in
+    let Q : Position → Type 0 = λ q. look_in scene leaf.texture q ≡ Some look in subst Q (sym e) (subst P at h)
+
 pub met_there : (scene : Scene) (ray : Ray) (hit : Hit) (leaf : Leaf) (p : Position) (from normal outward : V3) (look : Look) → slice_get scene.leaves.items hit.leaf ≡ Some leaf → p ≡ point_at ray hit.t → from ≡ raw_point p
     → normal ≡ turned_against ray.dir outward → outward ≡ leaf_outward leaf ray hit → look_in scene leaf.texture p ≡ Some look
     → met_at scene ray hit ≡ Some (record { from = from; normal = normal; look = look; ior = leaf.ior; entering = hit.entering })

@@ -10,3 +10,8 @@ pub mod AlikeHits
 pub mod AlikeShades
 pub mod Shown
 pub mod Strikes
+pub mod Sought
+pub mod Nearest
+pub mod Arrived
+pub mod Dull
+pub mod Alone

@@ -13,7 +13,7 @@ use Rattle.finish_shade.specs.Finishes.{opacity, shown}
 use Rattle.finish_shade.specs.Meetings.{met_at, ray_back, ray_on}
 use Rattle.finish_shade.specs.Shades.{IsShade, shown_by}
 
-level_left : (levels : ℕ) → 0 < levels → suc (levels - 1) ≡ levels
+pub level_left : (levels : ℕ) → 0 < levels → suc (levels - 1) ≡ levels
 level_left levels some = omega arith
 
 pub misses : (s : Surfaces) (scene : Scene) (levels : ℕ) (ray : Ray) (weight : ℤ) → 0 < levels → is_weak scene.adc weight ≡ false → ((t object leaf : ℕ) → ¬ IsHit s ray 63 false t object leaf) → IsShade s scene levels ray weight scene.background

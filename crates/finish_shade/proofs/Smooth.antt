@@ -79,10 +79,10 @@ far_step q zero some = absurd (omega arith)
 far_step q (suc k) some = let next : suc k + 1 ≡ suc (suc k) = omega arith in ap (far_power q) next
 
 -- an amount of 0 gives no highlight
-product_zero : (x : ℤ) → product_of x (pos 0) ≡ pos 0
+pub product_zero : (x : ℤ) → product_of x (pos 0) ≡ pos 0
 product_zero x = let none : x *ℤ pos 0 ≡ pos 0 = omega (arith, ints) in ap (λ (z : ℤ). rnd z (pos 65536)) none
 
-zero_product : (x : ℤ) → product_of (pos 0) x ≡ pos 0
+pub zero_product : (x : ℤ) → product_of (pos 0) x ≡ pos 0
 zero_product x = let none : pos 0 *ℤ x ≡ pos 0 = omega (arith, ints) in ap (λ (z : ℤ). rnd z (pos 65536)) none
 
 dark_channel : (x amount bright : ℤ) → amount ≡ pos 0 → pos 0 ≡ product3 x amount bright

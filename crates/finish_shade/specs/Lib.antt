@@ -7,3 +7,4 @@ pub mod Meetings
 pub mod Arrivals
 pub mod Shades
 pub mod Alike
+pub mod Alone

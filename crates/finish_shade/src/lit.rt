@@ -6,15 +6,16 @@ ghost use Rattle.scene_model.specs.Looks.{IsLight};
 ghost use Rattle.shapes.specs.Rays.{IsRayDirection};
 ghost use Rattle.csg_hits.specs.Hits.{Fits};
 ghost use Rattle.csg_hits.specs.Surfaces.{surfaces_of, without_sheets};
+ghost use Rattle.finish_shade.specs.Amounts.{black};
 ghost use Rattle.finish_shade.specs.Arrivals.{IsLit, arriving_light, shone_upon, unlit};
-ghost use Rattle.finish_shade.specs.Finishes.{plus};
-ghost use Rattle.finish_shade.specs.Meetings.{CanShow, IsMet};
+ghost use Rattle.finish_shade.specs.Finishes.{ambient_part, plus};
+ghost use Rattle.finish_shade.specs.Meetings.{CanShow, IsLook, IsMet};
 
 use crate::arriving::{arriving, way_to};
 use crate::directions::cosine;
 use crate::finish::{ambient_part, diffuse_part, highlights, light_of};
 use crate::lamps::{cone_factor, fading_factor};
-use crate::met::Met;
+use crate::met::{Look, Met};
 use csg_hits::{Scratch, World};
 use fix_math::{Fix, V3, length, unit};
 use scene_model::{Light, Rgb, Scene};
@@ -40,7 +41,10 @@ pub fn lit_by_all<W: World>(w: &W, scene: &Scene, s: &mut Scratch, dir: &V3, met
     ensures own { AreAmounts (2 ^ 52) result.own }
     ensures highlights { AreAmounts (2 ^ 42) result.highlights }
 {
-    let mut lit = unlit(scene, met);
+    let mut lit = unlit(scene, &met.look);
+    if met.look.is_dull() {
+        return lit;
+    }
     for lamp in &scene.lights {
         lit = with_lamp(w, scene, s, dir, met, lamp, &lit);
     }
@@ -48,15 +52,15 @@ pub fn lit_by_all<W: World>(w: &W, scene: &Scene, s: &mut Scratch, dir: &V3, met
 }
 
 /// What a surface shows without lamps.
-fn unlit(scene: &Scene, met: &Met) -> Lit
+pub fn unlit(scene: &Scene, look: &Look) -> Lit
     requires scene { CanShow scene.now }
-    requires met { IsMet met.now }
-    ensures value { result ≡ unlit scene.now met.now }
+    requires look { IsLook look.now }
+    ensures value { result ≡ record { own = ambient_part look.now.colour look.now.finish.ambient scene.now.ambient_light; highlights = black } }
     ensures own { AreAmounts (2 ^ 41) result.own }
     ensures highlights { AreAmounts 0 result.highlights }
 {
-    let colour = &met.look.colour;
-    let [red, green, blue] = ambient_part(colour, &met.look.finish.ambient, &scene.ambient_light);
+    let Look { colour, finish } = look;
+    let [red, green, blue] = ambient_part(colour, &finish.ambient, &scene.ambient_light);
     Lit {
         own: [red.raw(), green.raw(), blue.raw()],
         highlights: [0, 0, 0],

@@ -1,5 +1,6 @@
 // A surface where a ray meets it.
 ghost use Rattle.std.specs.Prelude.{◌≡◌, ◌+◌, ◌-◌, ◌≤◌, ◌<◌, ◌^◌, pos, unsigned_abs, length, Some, true, false};
+ghost use Rattle.std.specs.Ordering.{int_eq};
 ghost use Rattle.fix_math.specs.Matrices.{IsRowWithin, IsVectorWithin};
 ghost use Rattle.fix_math.specs.Numbers.{rnd};
 ghost use Rattle.scene_model.specs.Looks.{IsTexture};
@@ -27,6 +28,31 @@ pub struct Look {
     pub finish: Finish,
 }
 
+impl Look {
+    ghost use Rattle.finish_shade.specs.Alone.{is_dull};
+
+    /// Whether no lamp adds anything to what the surface shows.
+    #[inline]
+    pub fn is_dull(&self) -> bool
+        ensures { result ≡ is_dull self.now.finish }
+    {
+        let Finish {
+            diffuse,
+            phong,
+            specular,
+            ..
+        } = &self.finish;
+        is_none(*diffuse) && is_none(*phong) && is_none(*specular)
+    }
+}
+
+#[inline]
+fn is_none(amount: Fix) -> bool
+    ensures { result ≡ int_eq amount (pos 0) }
+{
+    amount.raw() == 0
+}
+
 /// A surface where a ray meets it.
 #[derive(Clone, Copy)]
 pub struct Met {
@@ -41,11 +67,13 @@ pub struct Met {
     pub entering: bool,
 }
 
-/// The surface that is hit first.
-pub fn met_at(scene: &Scene, ray: &Ray, hit: &Hit) -> Met
+/// The surface that is hit first, and that looks so there.
+pub fn met_at(scene: &Scene, ray: &Ray, hit: &Hit, look: Look) -> Met
     requires scene { CanShow scene.now }
     requires direction { IsRayDirection ray.now.dir }
     requires hit { IsNearest (without_sheets (surfaces_of scene.now)) ray.now 63 false hit.now }
+    requires look { look_at scene.now ray.now hit.now ≡ Some look }
+    requires valid { IsLook look }
     ensures value { met_at scene.now ray.now hit.now ≡ Some result }
     ensures valid { IsMet result }
 {
@@ -54,7 +82,7 @@ pub fn met_at(scene: &Scene, ray: &Ray, hit: &Hit) -> Met
     Met {
         from: raw_point(&at),
         normal: turned_against(&ray.dir, outward(leaf, ray, hit, &at)),
-        look: look_in(scene, leaf.texture, &at),
+        look,
         ior: leaf.ior,
         entering: hit.entering,
     }

@@ -4,14 +4,16 @@ ghost use Rattle.scene_model.specs.Amounts.{AreAmounts, IsAmount};
 ghost use Rattle.shapes.specs.Rays.{IsRayDirection};
 ghost use Rattle.csg_hits.specs.Hits.{Fits};
 ghost use Rattle.csg_hits.specs.Surfaces.{surfaces_of, without_sheets};
-ghost use Rattle.finish_shade.specs.Amounts.{let_through, weight_of};
-ghost use Rattle.finish_shade.specs.Meetings.{CanShow, IsMet, ray_back, ray_on};
+ghost use Rattle.finish_shade.specs.Alone.{is_end, is_unlit, shows_itself};
+ghost use Rattle.finish_shade.specs.Amounts.{black, let_through, weight_of};
+ghost use Rattle.finish_shade.specs.Finishes.{ambient_part, opacity, shown};
+ghost use Rattle.finish_shade.specs.Meetings.{CanShow, IsLook, IsMet, ray_back, ray_on};
 ghost use Rattle.finish_shade.specs.Shades.{IsShade};
 
 use crate::arriving::NEAR;
 use crate::finish::{BLACK, opacity, shown};
-use crate::lit::lit_by_all;
-use crate::met::{Met, met_at, ray_back, ray_on};
+use crate::lit::{lit_by_all, unlit};
+use crate::met::{Look, Met, look_at, met_at, ray_back, ray_on};
 use crate::weights::{is_weak, let_through, weight_of};
 use csg_hits::{Scratch, World};
 use fix_math::Fix;
@@ -47,7 +49,11 @@ pub fn shade<W: World>(
     let Some(hit) = w.nearest(s, ray, NEAR, false) else {
         return scene.background;
     };
-    let met = met_at(scene, ray, &hit);
+    let look = look_at(scene, ray, &hit);
+    if shows_itself(scene, &look, levels, weight) {
+        return alone(scene, &look);
+    }
+    let met = met_at(scene, ray, &hit, look);
     let lit = lit_by_all(w, scene, s, &ray.dir, &met);
     let thrown = thrown(w, scene, s, ray, &met, levels - 1, weight);
     let passed = passed(w, scene, s, ray, &met, levels - 1, weight);
@@ -60,6 +66,55 @@ pub fn shade<W: World>(
         &thrown,
         &let_through(colour),
         &passed,
+    )
+}
+
+/// Whether a surface shows no more than its own light to a ray that counts so much, and which so many levels
+/// of rays may follow, itself among them.
+fn shows_itself(scene: &Scene, look: &Look, levels: u32, weight: Fix) -> bool
+    requires look { IsLook look.now }
+    requires amount { IsAmount 65536 weight }
+    ensures { result ≡ shows_itself scene.now look.now levels weight }
+{
+    is_unlit(scene, look) && is_end(scene, look, levels, weight)
+}
+
+/// Whether lamps add nothing to what a surface shows: there are none, or it is dull.
+#[inline]
+fn is_unlit(scene: &Scene, look: &Look) -> bool
+    ensures { result ≡ is_unlit scene.now look.now }
+{
+    scene.lights.is_empty() || look.is_dull()
+}
+
+/// Whether neither ray that goes on from a surface shows anything.
+fn is_end(scene: &Scene, look: &Look, levels: u32, weight: Fix) -> bool
+    requires look { IsLook look.now }
+    requires amount { IsAmount 65536 weight }
+    ensures { result ≡ is_end scene.now look.now levels weight }
+{
+    levels == 1
+        || is_weak(scene.adc, weight_of(weight, &look.finish.reflection))
+            && is_weak(scene.adc, weight_of(weight, &let_through(&look.colour)))
+}
+
+/// What a surface shows of its own light alone.
+fn alone(scene: &Scene, look: &Look) -> Rgb
+    requires scene { CanShow scene.now }
+    requires look { IsLook look.now }
+    ensures value { result ≡ shown (opacity look.now.colour) (ambient_part look.now.colour look.now.finish.ambient scene.now.ambient_light) black look.now.finish.reflection black (let_through look.now.colour) black }
+    ensures amounts { AreAmounts (2 ^ 30) result }
+{
+    let Look { colour, finish } = look;
+    let lit = unlit(scene, look);
+    shown(
+        opacity(colour),
+        &lit.own,
+        &lit.highlights,
+        &finish.reflection,
+        &BLACK,
+        &let_through(colour),
+        &BLACK,
     )
 }
 

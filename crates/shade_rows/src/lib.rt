@@ -2,6 +2,8 @@
 #![tactic(auto)]
 
 #[cfg(test)]
+mod dull;
+#[cfg(test)]
 mod glass;
 #[cfg(test)]
 mod mirrors;

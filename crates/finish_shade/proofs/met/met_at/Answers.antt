@@ -1,7 +1,7 @@
-use Rattle.std.proofs.Common.{◌<◌, false, length, rules}
+use Rattle.std.proofs.Common.{false, rules}
 use Rattle.scene_model.specs.Solids.{IsLeaf}
 use Rattle.shapes.specs.Rays.{position_of}
-use Rattle.finish_shade.proofs.Crossed.{entered, leaf_crossed, leaf_is, leaf_there, met_there, there}
+use Rattle.finish_shade.proofs.Crossed.{entered, leaf_crossed, leaf_is, leaf_there, looks_there, met_there, there}
 use Rattle.finish_shade.proofs.Reach.{early}
 use Rattle.finish_shade.proofs.met.met_at.Goals as goal
 
@@ -31,18 +31,13 @@ outward-requires-clause-entering c =
     entered c.args.scene.now c.args.ray.now hit.t hit.leaf c.index-leaf.result.now hit.entering
     (leaf_is c.args.scene.now hit.leaf c.index-leaf.result.now lt c.index-leaf.ensures) c.requires.hit.entering
 
-pub look_in-requires-clause-there : goal.look_in-requires-clause-there
-look_in-requires-clause-there c =
-    let hit = c.args.hit.now in
-    let lt = leaf_there c.args.scene.now c.args.ray.now false hit.t hit.object hit.leaf c.requires.hit.found.struck in
-    there (λ leaf. leaf.texture < length c.args.scene.now.textures.items) c.args.scene.now.leaves.items hit.leaf c.index-leaf.result.now lt c.index-leaf.ensures c.requires.scene.leaf_textures
-
 pub returns-clause-value : goal.returns-clause-value
 returns-clause-value c =
     let hit = c.args.hit.now in
     let lt = leaf_there c.args.scene.now c.args.ray.now false hit.t hit.object hit.leaf c.requires.hit.found.struck in
-    met_there c.args.scene.now c.args.ray.now hit c.index-leaf.result.now (position_of c.point_of-at.result) c.raw_point.result c.turned_against.result c.outward.result c.look_in.result
-    (leaf_is c.args.scene.now hit.leaf c.index-leaf.result.now lt c.index-leaf.ensures) c.point_of-at.ensures c.raw_point.ensures.value c.turned_against.ensures.value c.outward.ensures.value c.look_in.ensures.value
+    met_there c.args.scene.now c.args.ray.now hit c.index-leaf.result.now (position_of c.point_of-at.result) c.raw_point.result c.turned_against.result c.outward.result c.args.look
+    (leaf_is c.args.scene.now hit.leaf c.index-leaf.result.now lt c.index-leaf.ensures) c.point_of-at.ensures c.raw_point.ensures.value c.turned_against.ensures.value c.outward.ensures.value
+    (looks_there c.args.scene.now c.args.ray.now hit c.index-leaf.result.now (position_of c.point_of-at.result) c.args.look (leaf_is c.args.scene.now hit.leaf c.index-leaf.result.now lt c.index-leaf.ensures) c.point_of-at.ensures c.requires.look)
 
 pub returns-clause-valid : goal.returns-clause-valid
 returns-clause-valid c =
@@ -51,6 +46,6 @@ returns-clause-valid c =
     record {
       from = c.raw_point.ensures.small;
       normal = c.turned_against.ensures.small;
-      look = c.look_in.ensures.valid;
+      look = c.requires.valid;
       ior = (there IsLeaf c.args.scene.now.leaves.items hit.leaf c.index-leaf.result.now lt c.index-leaf.ensures c.requires.scene.leaves).ior;
     }

@@ -1,7 +1,9 @@
-use Rattle.std.proofs.Common.{ℕ, ℤ, ◌≡◌, true, ap, sym, subst, ◌∙◌, arith}
+use Rattle.std.proofs.Common.{ℕ, ℤ, ◌≡◌, true, false, ap, sym, subst, ◌∙◌, arith}
 use Rattle.finish_shade.specs.Amounts.{black, is_weak, weight_of}
 use Rattle.finish_shade.specs.Meetings.{ray_back, ray_on}
 use Rattle.finish_shade.specs.Shades.{IsShade}
+use Rattle.finish_shade.proofs.Alone.{shows_alone}
+use Rattle.finish_shade.proofs.Crossed.{leaf_hit}
 use Rattle.finish_shade.proofs.Shown.{meets, misses}
 use Rattle.finish_shade.proofs.shading.+shade.Goals as goal
 
@@ -27,6 +29,14 @@ shade-returns-then-is_weak-clause-shade g t c = IsShade.weak c.args.levels c.arg
 pub shade-returns-in_default-clause-shade : goal.shade-returns-in_default-clause-shade
 shade-returns-in_default-clause-shade g t c =
     misses (g.W.World.surfaces c.args.w.now) c.args.scene.now c.args.levels c.args.ray.now c.args.weight (omega (arith, c.if-levels-eq0.false)) (sym c.is_weak.ensures ∙ c.if-is_weak.false) c.in_default.ensures.none
+
+pub shade-look_at-look-requires-clause-leaf : goal.shade-look_at-look-requires-clause-leaf
+shade-look_at-look-requires-clause-leaf g t c = leaf_hit (g.W.World.surfaces c.args.w.now) c.args.scene.now c.args.ray.now 63 false c.in-Some.hit c.requires.stands c.in-Some.ensures.nearest
+
+pub shade-returns-then-shows_itself-clause-shade : goal.shade-returns-then-shows_itself-clause-shade
+shade-returns-then-shows_itself-clause-shade g t c =
+    shows_alone (g.W.World.surfaces c.args.w.now) c.args.scene.now c.args.levels c.args.ray.now c.args.weight c.in-Some.hit c.look_at-look.result c.alone.result c.requires.stands c.requires.scene
+    (omega (arith, c.if-levels-eq0.false)) (sym c.is_weak.ensures ∙ c.if-is_weak.false) c.in-Some.ensures.nearest c.look_at-look.ensures.value (sym c.shows_itself.ensures ∙ c.if-shows_itself.true) c.alone.ensures.value
 
 pub shade-returns-clause-shade : goal.shade-returns-clause-shade
 shade-returns-clause-shade g t c =
