@@ -1,6 +1,6 @@
 -- Bytes that stand first in others.
 use Rattle.std.proofs.lemmas.List.{append_assoc, append-nil}
-use Rattle.std.proofs.Common.{ℕ, ◌≡◌, sym, ap, ◌∙◌, List, [], ◌++◌}
+use Rattle.std.proofs.Common.{ℕ, sym, ap, ◌∙◌, List, [], ◌++◌}
 use Rattle.directive_machine.specs.Fronts.{IsFront}
 
 pub front_same : (m : List ℕ) → IsFront m m

@@ -1,10 +1,9 @@
 -- What was said before a token is taken stands first in what is said once it was, and a step that reads no text
 -- doesn't stop for one.
-use Rattle.std.proofs.Common.{ℕ, zero, suc, ◌+◌, ◌≡◌, ◌≢◌, Bool, true, false, List, ◌∷◌, [], Option, Some, None, Result, Ok, Err, if◌then◌else◌, slice_get}
+use Rattle.std.proofs.Common.{ℕ, zero, suc, ◌+◌, ◌≢◌, Bool, true, false, List, ◌∷◌, [], Option, Some, None, Result, Ok, Err, if◌then◌else◌, slice_get}
 use Rattle.scene_lexer.specs.declared.token.Kind.{Kind}
 use Rattle.scene_lexer.specs.declared.token.Token.{Token}
 use Rattle.scene_lexer.specs.declared.token.Place.{Place}
-use Rattle.scene_expr.specs.declared.value.Value.{Value}
 use Rattle.text_structure.specs.declared.mark.Mark.{Mark}
 use Rattle.text_structure.specs.declared.mark.Known.{Known}
 use Rattle.text_structure.specs.declared.mark.Directive.{Directive}
@@ -21,9 +20,9 @@ use Rattle.directive_machine.specs.Moves.{Action}
 use Rattle.directive_machine.specs.State.{State, Stopped, Begun, begun, Asked, Named, on_ok, counted, deeper, passed, asked_by, asked, named_by, named, handed, wrong}
 use Rattle.directive_machine.specs.Fronts.{IsFront}
 use Rattle.directive_machine.specs.Begins.{finish_of, begun_if, begun_ifdef, begun_while, begun_for, begun_switch}
-use Rattle.directive_machine.specs.Declares.{step, behind_stop, bound_as, macro_of, stop_taken, begun_copy, begun_name, begun_list, begun_block, begun_side, begun_declare, begun_undef, unbound, word_told, told_by, told, begun_message, begun_include, version_taken, begun_version, Parameters, separated, parameters, parameters_of, begun_macro, block_at}
+use Rattle.directive_machine.specs.Declares.{step, behind_stop, bound_as, macro_of, stop_taken, begun_name, begun_side, begun_declare, begun_undef, unbound, word_told, told_by, told, begun_message, begun_include, version_taken, begun_version, Parameters, separated, parameters, parameters_of, begun_macro, block_at}
 use Rattle.directive_machine.specs.Words.{Argued, is_bound_by, like, truth, is_misfit, calling, call_of, argument, word_argued, list_argued, first_argument, begun_call, begun_bound, begun_defined, handed_token, handed_at, handed_truth, substituted}
-use Rattle.directive_machine.specs.Tokens.{begun_default, begun_break, begun_word, begun_directive, begun_mark, begun_in}
+use Rattle.directive_machine.specs.Tokens.{begun_word, begun_directive, begun_mark, begun_in}
 
 -- what comes of a step begins with what was said, and no step stops for a text
 pub data Says {A : Type 0} (state : A → State) (m : List ℕ) : Result A Stopped → Type 0 where

@@ -20,3 +20,4 @@ mod Tails
 mod SaidFirst
 mod Onward
 mod Starts
+mod Passages

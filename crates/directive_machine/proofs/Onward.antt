@@ -1,6 +1,6 @@
 -- What the whole comes to comes of the frames that are left.
 use Rattle.std.proofs.lemmas.List.{reverse-append}
-use Rattle.std.proofs.Common.{ℕ, reverse, take, ◌-◌, ◌≡◌, ◌<◌, ◌≤◌, subst, sym, ap, ◌∙◌, refl, Bool, true, false, MatchBool, List, [], ◌∷◌, ◌++◌, Result, Ok, Err, arith}
+use Rattle.std.proofs.Common.{ℕ, reverse, ◌≡◌, ◌<◌, ◌≤◌, subst, sym, ap, ◌∙◌, refl, Bool, true, false, List, [], ◌∷◌, ◌++◌, Ok, Err}
 use Rattle.scene_expr.specs.Then.{IsThen}
 use Rattle.directive_machine.specs.declared.part.Part.{Part}
 use Rattle.directive_machine.specs.declared.part.Frame.{Frame}

@@ -1,29 +1,28 @@
 -- What comes of a part begins with what was said, and it stops for a text only where one is read.
-use Rattle.std.proofs.Common.{ℕ, ◌≡◌, ◌≢◌, subst, sym, Bool, true, false, MatchBool, List, [], ◌∷◌, Option, Some, None, Result, Ok, Err}
+use Rattle.std.proofs.Common.{ℕ, ◌≡◌, ◌≢◌, subst, sym, Bool, true, false, List, [], ◌∷◌, Option, Some, None, Result, Ok, Err}
 use Rattle.std.specs.Result.{IfErr}
 use Rattle.scene_lexer.specs.declared.token.Place.{Place}
 use Rattle.scene_expr.specs.declared.value.Settings.{Settings}
-use Rattle.scene_expr.specs.Then.{IsThen, Is}
+use Rattle.scene_expr.specs.Then.{IsThen}
 use Rattle.text_structure.specs.Texts.{Text}
 use Rattle.directive_machine.specs.declared.flat.Source.{Source}
 use Rattle.directive_machine.specs.declared.stop.Stop.{Stop}
 use Rattle.directive_machine.specs.declared.part.Part.{Part}
 use Rattle.directive_machine.specs.declared.part.Frame.{Frame}
-use Rattle.directive_machine.specs.State.{State, Stopped, Settled, Begun, begun, stopped}
-use Rattle.directive_machine.specs.Values.{Valued}
+use Rattle.directive_machine.specs.State.{State, Stopped, Begun, stopped}
 use Rattle.directive_machine.specs.Holds.{text_of}
 use Rattle.directive_machine.specs.Settles.{given_up}
-use Rattle.directive_machine.specs.Includes.{Asking, asking, included_next, IsAsked, IsIncludedBy, IsIncluded}
-use Rattle.directive_machine.specs.Sources.{Sources, Opened, Unread, text_at, IsOpened, found_text}
-use Rattle.directive_machine.specs.Course.{Given, Course, Halted, After, Came, Outcome, course, halted, halted_by, after, came, Within, Beside}
+use Rattle.directive_machine.specs.Includes.{Asking, asking, included_next, IsAsked, IsIncludedBy}
+use Rattle.directive_machine.specs.Sources.{Sources, Unread, text_at, found_text}
+use Rattle.directive_machine.specs.Course.{Given, Course, Halted, After, Came, Outcome, course, halted, after, came, Within, Beside}
 use Rattle.directive_machine.specs.Tokens.{begun_in}
 use Rattle.directive_machine.specs.Ways.{begun_at, read_at, home_number, home_by, IsToldIn, IsSettledBy, IsSettled}
 use Rattle.directive_machine.specs.Expands.{Runs, Expands}
 use Rattle.directive_machine.specs.Fronts.{IsFront, SaysOn, said_by}
 use Rattle.directive_machine.proofs.Fronts.{front_same}
 use Rattle.directive_machine.proofs.Heads.{Says, begun_state, says_begun}
-use Rattle.directive_machine.proofs.Tails.{settled_state, says_same, says_then, says_front, says_valued, says_text, says_told, says_given_up}
-use Rattle.directive_machine.proofs.Stacks.{Follows, GoesOn, Left, frame}
+use Rattle.directive_machine.proofs.Tails.{says_same, says_then, says_front, says_valued, says_text, says_told, says_given_up}
+use Rattle.directive_machine.proofs.Stacks.{Follows, GoesOn, Left}
 
 -- what was said stands first in what is said behind a part, or where it is refused
 abbrev pub SaysIn : List ℕ → Result Came Halted → Type 0

@@ -1,6 +1,6 @@
 -- What was said, from the first text's reading to a stop, stands first in what the scene comes to.
-use Rattle.std.proofs.Common.{ℕ, ◌≡◌, subst, sym, ap, ◌∙◌, refl, List, [], length, Option, Some, Result, Ok, Err}
-use Rattle.scene_expr.specs.Then.{IsThen, Is, IsOne}
+use Rattle.std.proofs.Common.{ℕ, ◌≡◌, subst, sym, ap, refl, List, [], length, Option, Some, Result, Ok, Err}
+use Rattle.scene_expr.specs.Then.{IsThen, Is}
 use Rattle.directive_machine.specs.declared.flat.Source.{Source}
 use Rattle.directive_machine.specs.declared.part.Part.{Part}
 use Rattle.directive_machine.specs.State.{State}

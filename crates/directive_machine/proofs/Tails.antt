@@ -1,27 +1,24 @@
 -- What was said before a part is over stands first in what is said behind it.
-use Rattle.std.proofs.Common.{ℕ, ◌+◌, ◌+ℤ◌, ◌≡◌, ◌≢◌, ℤ, pos, subst, sym, Bool, true, false, MatchBool, List, ◌++◌, drop, length, Option, Some, None, Result, Ok, Err, if◌then◌else◌}
-use Rattle.std.specs.Ordering.{int_eq}
+use Rattle.std.proofs.Common.{ℕ, ◌+◌, ◌+ℤ◌, ◌≡◌, ℤ, pos, subst, sym, Bool, true, false, MatchBool, List, drop, Option, Some, None, Result, Ok, Err}
 use Rattle.fix_math.specs.declared.fix.NumFault.{NumFault}
 use Rattle.fix_math.specs.Outcomes.{in_range}
 use Rattle.scene_lexer.specs.declared.token.Place.{Place}
-use Rattle.scene_expr.specs.declared.value.ExprFault.{ExprFault}
 use Rattle.scene_expr.specs.declared.value.Settings.{Settings}
 use Rattle.scene_expr.specs.declared.value.Value.{Value}
-use Rattle.scene_expr.specs.Then.{IsThen, Is}
+use Rattle.scene_expr.specs.Then.{IsThen}
 use Rattle.text_structure.specs.declared.mark.Directive.{Directive}
 use Rattle.text_structure.specs.Texts.{Text}
 use Rattle.text_structure.specs.Turns.{directive_at}
 use Rattle.scope_tables.specs.declared.binding.Binding.{Binding}
-use Rattle.directive_machine.specs.declared.stop.Stop.{Stop}
 use Rattle.directive_machine.specs.declared.part.Part.{Part}
 use Rattle.directive_machine.specs.declared.part.Call.{Call}
 use Rattle.directive_machine.specs.declared.part.Choice.{Choice}
 use Rattle.directive_machine.specs.declared.part.Turns.{Turns}
 use Rattle.directive_machine.specs.declared.part.Then.{Then}
-use Rattle.directive_machine.specs.State.{State, Stopped, Settled, on_ok, passed}
+use Rattle.directive_machine.specs.State.{State, Stopped, Settled}
 use Rattle.directive_machine.specs.Fronts.{IsFront}
 use Rattle.directive_machine.specs.Nexts.{float}
-use Rattle.directive_machine.specs.Cases.{case_taken, asked_case, asked_range, case_by, next_by, next_case, matched_case, made_low, made_high, fallen_case, fallen_by}
+use Rattle.directive_machine.specs.Cases.{case_taken, case_by, next_by, next_case, matched_case, made_low, made_high, fallen_case, fallen_by}
 use Rattle.directive_machine.specs.Rounds.{tried, begun_turns, made_from, made_to, made_by, turned_by, turned}
 use Rattle.directive_machine.specs.Arguments.{with_argument, made_argument, parameter_by, next_call}
 use Rattle.directive_machine.specs.Holds.{text_of, said, held_block, made_block, is_one_block}

@@ -20,6 +20,7 @@ pub mod Course
 pub mod Read
 pub mod Includes
 pub mod Ways
+pub mod Passages
 pub mod Expands
 pub mod Expansions
 pub mod Fronts

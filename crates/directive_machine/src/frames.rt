@@ -19,6 +19,7 @@ use crate::begin::begin;
 use crate::include::include;
 use crate::machine::Machine;
 use crate::part::{Frame, Lead, Part, Rest, Then};
+use crate::passage::pass_on;
 use crate::readings::Readings;
 use crate::stop::Stop;
 use crate::texts::Texts;
@@ -351,7 +352,7 @@ pub fn expand_part<T: Texts>(
                 alloc, set, libraries, texts, readings, machine, &part, broken, &mut inner,
             )? {
                 Rest::Further => {
-                    at = inner.at;
+                    at = pass_on(alloc, readings, machine, &inner, inner.at);
                     part = inner;
                     broken = false;
                 }
@@ -367,7 +368,7 @@ pub fn expand_part<T: Texts>(
         } else {
             match step(alloc, readings, machine, &part, at, &mut inner)? {
                 Lead::Step(next) => {
-                    at = next;
+                    at = pass_on(alloc, readings, machine, &part, next);
                 }
                 Lead::Break => {
                     broken = true;
@@ -375,7 +376,7 @@ pub fn expand_part<T: Texts>(
                 Lead::Open(behind) => {
                     weigh(&inner);
                     wait(&mut frames, part, behind)?;
-                    at = inner.at;
+                    at = pass_on(alloc, readings, machine, &inner, inner.at);
                     part = inner;
                 }
             }

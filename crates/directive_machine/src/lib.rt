@@ -16,6 +16,7 @@ mod machine;
 mod made;
 mod mem_texts;
 mod part;
+mod passage;
 mod readings;
 mod settle;
 mod stop;

@@ -1,6 +1,6 @@
 // What an expansion carries along, and its smallest steps.
-ghost use Rattle.std.specs.Prelude.{◌≡◌, ◌≢◌, ◌<◌, ◌≤◌, ◌+◌, ◌^◌, ℕ, List, [], ◌∷◌, ◌++◌, length, drop, Ok, Err, IfOk, IfErr, OnOk, slice_get};
-ghost use Rattle.directive_machine.specs.State.{counted, deeper, matched, passed, asked, asked_by, named, named_by, handed, is_aside, is_evaluated, stopped, restored, is_free, given_out};
+ghost use Rattle.std.specs.Prelude.{◌≡◌, ◌≢◌, ◌<◌, ◌≤◌, ◌+◌, ◌^◌, ℕ, List, [], ◌∷◌, ◌++◌, length, drop, Ok, Err, IfOk, IfErr, OnOk, OnErr, nat_lt, slice_get};
+ghost use Rattle.directive_machine.specs.State.{most_taken, counted, deeper, matched, passed, asked, asked_by, named, named_by, handed, is_aside, is_evaluated, stopped, restored, is_free, given_out};
 ghost use Rattle.scene_expr.specs.Heads.{place_at};
 ghost use Rattle.directive_machine.specs.Carried.{state_of};
 ghost use Rattle.directive_machine.specs.declared.stop.Stop.TheVariants.{NoMemory, TextFault};
@@ -197,6 +197,14 @@ impl Machine {
         self.out.as_slice().len()
     }
 
+    /// Whether one more token may be taken.
+    #[inline(always)]
+    pub fn may_take(&self) -> bool
+        ensures { result ≡ nat_lt self.now.taken most_taken }
+    {
+        self.taken < MOST_TAKEN
+    }
+
     /// Whether a part may hand out one more token.
     #[inline(always)]
     pub fn is_free(&self, part: &Part) -> bool
@@ -209,6 +217,7 @@ impl Machine {
     #[inline(always)]
     pub fn put(&mut self, token: Token) -> Result<(), AllocError>
         ensures state { OnOk result (state_of self.new ≡ given_out (token ∷ []) (state_of self.old)) }
+        ensures same { OnErr result (state_of self.new ≡ state_of self.old) }
         ensures taken { self.new.taken ≡ self.old.taken }
         ensures said { self.new.messages.items ≡ self.old.messages.items }
     {

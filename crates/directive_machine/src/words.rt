@@ -1,5 +1,5 @@
 // What the words of a text that aren't directives come to.
-ghost use Rattle.std.specs.Prelude.{◌≡◌, ◌≢◌, ◌<◌, ◌≤◌, ◌+◌, ◌++◌, ◌^◌, ◌∷◌, [], map, Some, Ok, Err, IfOk, IfErr, OnOk, length, slice_get, option_map};
+ghost use Rattle.std.specs.Prelude.{◌≡◌, ◌≢◌, ◌<◌, ◌≤◌, ◌+◌, ◌++◌, ◌^◌, ◌∷◌, [], map, Some, Ok, Err, IfOk, IfErr, OnOk, OnErr, length, slice_get, option_map};
 ghost use Rattle.directive_machine.specs.Moves.{action_of};
 ghost use Rattle.directive_machine.specs.State.{stopped, begun, on_ok, counted, given_out};
 ghost use Rattle.directive_machine.specs.Words.{handed_token, handed_at, like, rest_of_row, row_of, value_tokens, placed, substituted, is_defined, is_bound_by, truth, handed_truth, begun_defined, commas, arguments, argued, argued_part, may_hold, is_braced, list_argued, word_argued, argument, first_argument, call_of, is_misfit, calling, begun_call, begun_bound};
@@ -45,6 +45,7 @@ fn full(token: &Token) -> Stop
 #[inline(always)]
 fn put_sign(machine: &mut Machine, token: &Token, code: u8) -> Result<(), AllocError>
     ensures state { OnOk result (state_of machine.new ≡ given_out (like token.now (Kind.Sign code) ∷ []) (state_of machine.old)) }
+    ensures same { OnErr result (state_of machine.new ≡ state_of machine.old) }
     ensures taken { machine.new.taken ≡ machine.old.taken }
     ensures said { machine.new.messages.items ≡ machine.old.messages.items }
 {
@@ -53,8 +54,9 @@ fn put_sign(machine: &mut Machine, token: &Token, code: u8) -> Result<(), AllocE
 
 /// A number is handed out.
 #[inline(always)]
-fn put_number(machine: &mut Machine, token: &Token, value: Fix) -> Result<(), AllocError>
+pub fn put_number(machine: &mut Machine, token: &Token, value: Fix) -> Result<(), AllocError>
     ensures state { OnOk result (state_of machine.new ≡ given_out (like token.now (Kind.Number value) ∷ []) (state_of machine.old)) }
+    ensures same { OnErr result (state_of machine.new ≡ state_of machine.old) }
     ensures taken { machine.new.taken ≡ machine.old.taken }
     ensures said { machine.new.messages.items ≡ machine.old.messages.items }
 {
@@ -65,6 +67,7 @@ fn put_number(machine: &mut Machine, token: &Token, value: Fix) -> Result<(), Al
 #[inline(never)]
 fn put_word(alloc: Global, machine: &mut Machine, token: &Token) -> Result<(), AllocError>
     ensures state { OnOk result (state_of machine.new ≡ given_out (token.now ∷ []) (state_of machine.old)) }
+    ensures same { OnErr result (state_of machine.new ≡ state_of machine.old) }
     ensures taken { machine.new.taken ≡ machine.old.taken }
     ensures said { machine.new.messages.items ≡ machine.old.messages.items }
 {
@@ -74,8 +77,9 @@ fn put_word(alloc: Global, machine: &mut Machine, token: &Token) -> Result<(), A
 
 /// A token is handed out as it is.
 #[inline(always)]
-fn put_copy(alloc: Global, machine: &mut Machine, token: &Token) -> Result<(), AllocError>
+pub fn put_copy(alloc: Global, machine: &mut Machine, token: &Token) -> Result<(), AllocError>
     ensures state { OnOk result (state_of machine.new ≡ given_out (token.now ∷ []) (state_of machine.old)) }
+    ensures same { OnErr result (state_of machine.new ≡ state_of machine.old) }
     ensures taken { machine.new.taken ≡ machine.old.taken }
     ensures said { machine.new.messages.items ≡ machine.old.messages.items }
 {

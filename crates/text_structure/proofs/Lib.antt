@@ -2,3 +2,4 @@ mod Entries
 mod Vocabularies
 mod Nests
 pub mod OneEnd
+mod Rows

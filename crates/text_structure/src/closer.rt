@@ -154,7 +154,7 @@ fn opens_angle(marks: &[Mark], at: usize) -> bool
 }
 
 /// The sign that closes a list; 0 for the `#end` of a directive.
-fn closing(closer: Closer) -> u8
+pub fn closing(closer: Closer) -> u8
     ensures { result ≡ closing closer }
 {
     match closer {
@@ -244,6 +244,7 @@ fn version_turn(marks: &[Mark], at: usize) -> Turn
 }
 
 /// What the `#` of a directive is to a list.
+#[inline(never)]
 fn directive_turn(marks: &[Mark], closer: Closer, at: usize, directive: Directive) -> Turn
     requires small { at < 2 ^ 60 }
     requires within { at + 1 < length marks.now }
@@ -284,6 +285,7 @@ fn directive_turn(marks: &[Mark], closer: Closer, at: usize, directive: Directiv
 }
 
 /// What a sign is to a list in which it alone opens lists of its own.
+#[inline(always)]
 fn bracket_turn(closer: Closer, opening: u8, at: usize, code: u8) -> Turn
     requires { at < 2 ^ 60 }
     ensures ahead { IsAhead at (at + 1) result }
@@ -302,6 +304,7 @@ fn bracket_turn(closer: Closer, opening: u8, at: usize, code: u8) -> Turn
 }
 
 /// What a sign is to a list in which all brackets count.
+#[inline(always)]
 fn mixed_turn(marks: &[Mark], closer: Closer, at: usize, code: u8) -> Turn
     requires small { at < 2 ^ 60 }
     requires within { at < length marks.now }
@@ -337,6 +340,7 @@ fn mixed_turn(marks: &[Mark], closer: Closer, at: usize, code: u8) -> Turn
 }
 
 /// What a token is to a list that isn't the `#` of a directive.
+#[inline(always)]
 fn sign_turn(marks: &[Mark], closer: Closer, at: usize, code: u8) -> Turn
     requires small { at < 2 ^ 60 }
     requires within { at < length marks.now }
@@ -358,6 +362,7 @@ fn sign_turn(marks: &[Mark], closer: Closer, at: usize, code: u8) -> Turn
 }
 
 /// What the token at a place is to a list.
+#[inline(always)]
 pub fn turn_at(marks: &[Mark], closer: Closer, at: usize) -> Turn
     requires { at < 2 ^ 60 }
     ensures value { result ≡ turn_at marks.now closer at }
@@ -414,6 +419,7 @@ fn past_sign(marks: &[Mark], code: u8, at: usize) -> usize
 }
 
 /// Where a list goes on behind an inner one that ends at a place: behind its closer, or at what ends them both.
+#[inline(always)]
 pub fn past(marks: &[Mark], inner: Closer, at: usize) -> usize
     requires { at < 2 ^ 60 }
     ensures value { result ≡ past marks.now inner at }

@@ -59,7 +59,7 @@ fn marks_of(alloc: Global, words: &mut Words, tokens: &[Token]) -> Result<Vec<Ma
     ensures marks { IfOk result (λ marks. marked tokens.now [] words.old ≡ record { marks = marks.items; words = words.new }) }
     ensures length { IfOk result (λ marks. length marks.items ≡ length tokens.now) }
 {
-    let mut marks = Vec::new(alloc);
+    let mut marks = Vec::with_capacity(alloc, tokens.len())?;
     for token in tokens {
         let mark = mark_of(alloc, words, &token.kind)?;
         marks.push(mark)?;

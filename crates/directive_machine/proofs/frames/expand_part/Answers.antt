@@ -6,6 +6,7 @@ use Rattle.directive_machine.proofs.Exit.{exit}
 use Rattle.directive_machine.proofs.Stacks.{frame, left_refused, left_done, left_further, on_fault, on_step, on_break, on_open, popped, none_left, left_first}
 use Rattle.directive_machine.proofs.Onward.{to_step, to_break, to_open, to_done, to_further, to_popped, to_first}
 use Rattle.directive_machine.proofs.OneText.{one_settled}
+use Rattle.directive_machine.proofs.Passages.{on_passage, to_passage}
 use Rattle.directive_machine.proofs.SaidFirst.{front_left}
 use Rattle.directive_machine.proofs.frames.expand_part.Goals as goal
 
@@ -32,10 +33,10 @@ pub steps-preserved-in-Further : goal.steps-preserved-in-Further
 steps-preserved-in-Further g c = record {
   held = c.in_ok-settle.ensures.held ∙ c.steps.invariant.held;
   later = omega (arith, c.steps.invariant.later, c.in_ok-settle.ensures.cause.later);
-  within = c.in_ok-settle.ensures.within;
+  within = c.pass_on-at.ensures.within;
   one = c.steps.invariant.one;
-  rest = λ h held r rest. c.steps.invariant.rest h held r (left_further (given c.args.set.now c.args.libraries.now h) _ _ _ _ _ _ _ _ r (c.is_over.ensures.over c.if-is_over.true) (ap (λ k. next_of k c.settle.new.further) c.in-Further.is) (c.in_ok-settle.ensures.ok h (c.steps.invariant.held ∙ held)) rest);
-  onward = λ h held r run. to_further (given c.args.set.now c.args.libraries.now h) (λ p a. one_settled c.steps.invariant.one (given c.args.set.now c.args.libraries.now h) p a) _ _ _ _ _ _ _ _ r (c.is_over.ensures.over c.if-is_over.true) (ap (λ k. next_of k c.settle.new.further) c.in-Further.is) (c.in_ok-settle.ensures.ok h (c.steps.invariant.held ∙ held)) (c.steps.invariant.onward h held r run);
+  rest = λ h held r rest. c.steps.invariant.rest h held r (left_further (given c.args.set.now c.args.libraries.now h) _ _ _ _ _ _ _ _ r (c.is_over.ensures.over c.if-is_over.true) (ap (λ k. next_of k c.settle.new.further) c.in-Further.is) (c.in_ok-settle.ensures.ok h (c.steps.invariant.held ∙ held)) (on_passage (given c.args.set.now c.args.libraries.now h) _ _ _ _ _ r refl _ _ c.pass_on-at.ensures.passage rest));
+  onward = λ h held r run. to_passage (given c.args.set.now c.args.libraries.now h) _ _ _ _ _ r refl _ _ c.pass_on-at.ensures.passage (to_further (given c.args.set.now c.args.libraries.now h) (λ p a. one_settled c.steps.invariant.one (given c.args.set.now c.args.libraries.now h) p a) _ _ _ _ _ _ _ _ r (c.is_over.ensures.over c.if-is_over.true) (ap (λ k. next_of k c.settle.new.further) c.in-Further.is) (c.in_ok-settle.ensures.ok h (c.steps.invariant.held ∙ held)) (c.steps.invariant.onward h held r run));
 }
 
 pub steps-preserved-in-Some : goal.steps-preserved-in-Some
@@ -64,10 +65,10 @@ pub steps-preserved-in-Step : goal.steps-preserved-in-Step
 steps-preserved-in-Step g c = record {
   held = c.steps.invariant.held;
   later = c.steps.invariant.later;
-  within = c.in_ok-next.ensures.within;
+  within = c.pass_on-at-in-Step.ensures.within;
   one = c.steps.invariant.one;
-  rest = λ h held r rest. c.steps.invariant.rest h held r (on_step (given c.args.set.now c.args.libraries.now h) _ _ _ _ _ _ _ _ r (c.is_over.ensures.runs c.if-is_over.false) (c.is_over.ensures.within c.if-is_over.false) (ap (λ k. action_of k c.step.new.inner) c.in-Step.is) c.in_ok-next.ensures.ok rest);
-  onward = λ h held r run. to_step (given c.args.set.now c.args.libraries.now h) _ _ _ _ _ _ _ _ r (c.is_over.ensures.runs c.if-is_over.false) (c.is_over.ensures.within c.if-is_over.false) (ap (λ k. action_of k c.step.new.inner) c.in-Step.is) c.in_ok-next.ensures.ok (c.steps.invariant.onward h held r run);
+  rest = λ h held r rest. c.steps.invariant.rest h held r (on_step (given c.args.set.now c.args.libraries.now h) _ _ _ _ _ _ _ _ r (c.is_over.ensures.runs c.if-is_over.false) (c.is_over.ensures.within c.if-is_over.false) (ap (λ k. action_of k c.step.new.inner) c.in-Step.is) c.in_ok-next.ensures.ok (on_passage (given c.args.set.now c.args.libraries.now h) _ _ _ _ _ r (c.is_over.ensures.runs c.if-is_over.false) _ _ c.pass_on-at-in-Step.ensures.passage rest));
+  onward = λ h held r run. to_passage (given c.args.set.now c.args.libraries.now h) _ _ _ _ _ r (c.is_over.ensures.runs c.if-is_over.false) _ _ c.pass_on-at-in-Step.ensures.passage (to_step (given c.args.set.now c.args.libraries.now h) _ _ _ _ _ _ _ _ r (c.is_over.ensures.runs c.if-is_over.false) (c.is_over.ensures.within c.if-is_over.false) (ap (λ k. action_of k c.step.new.inner) c.in-Step.is) c.in_ok-next.ensures.ok (c.steps.invariant.onward h held r run));
 }
 
 pub steps-preserved-in-Break : goal.steps-preserved-in-Break
@@ -88,8 +89,8 @@ pub steps-preserved : goal.steps-preserved
 steps-preserved g c = record {
   held = c.steps.invariant.held;
   later = c.steps.invariant.later;
-  within = c.in_ok-next.ensures.within;
+  within = c.pass_on-at-in-Open.ensures.within;
   one = c.steps.invariant.one;
-  rest = λ h held r rest. c.steps.invariant.rest h held r (on_open (given c.args.set.now c.args.libraries.now h) _ _ _ _ _ _ _ _ _ _ r (c.is_over.ensures.runs c.if-is_over.false) (c.is_over.ensures.within c.if-is_over.false) (ap (λ k. action_of k c.step.new.inner) c.in-Open.is) c.in_ok-next.ensures.ok c.in_ok-wait-in-Open.ensures.ok rest);
-  onward = λ h held r run. to_open (given c.args.set.now c.args.libraries.now h) _ _ _ _ _ _ _ _ _ _ r (c.is_over.ensures.runs c.if-is_over.false) (c.is_over.ensures.within c.if-is_over.false) (ap (λ k. action_of k c.step.new.inner) c.in-Open.is) c.in_ok-next.ensures.ok c.in_ok-wait-in-Open.ensures.ok (c.steps.invariant.onward h held r run);
+  rest = λ h held r rest. c.steps.invariant.rest h held r (on_open (given c.args.set.now c.args.libraries.now h) _ _ _ _ _ _ _ _ _ _ r (c.is_over.ensures.runs c.if-is_over.false) (c.is_over.ensures.within c.if-is_over.false) (ap (λ k. action_of k c.step.new.inner) c.in-Open.is) c.in_ok-next.ensures.ok c.in_ok-wait-in-Open.ensures.ok (on_passage (given c.args.set.now c.args.libraries.now h) _ _ _ _ _ r (c.is_over.ensures.runs c.if-is_over.false) _ _ c.pass_on-at-in-Open.ensures.passage rest));
+  onward = λ h held r run. to_passage (given c.args.set.now c.args.libraries.now h) _ _ _ _ _ r (c.is_over.ensures.runs c.if-is_over.false) _ _ c.pass_on-at-in-Open.ensures.passage (to_open (given c.args.set.now c.args.libraries.now h) _ _ _ _ _ _ _ _ _ _ r (c.is_over.ensures.runs c.if-is_over.false) (c.is_over.ensures.within c.if-is_over.false) (ap (λ k. action_of k c.step.new.inner) c.in-Open.is) c.in_ok-next.ensures.ok c.in_ok-wait-in-Open.ensures.ok (c.steps.invariant.onward h held r run));
 }

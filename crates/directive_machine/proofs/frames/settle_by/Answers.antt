@@ -1,6 +1,5 @@
 use Rattle.std.proofs.Common.{sym, ◌∙◌}
 use Rattle.directive_machine.specs.Carried.{state_of}
-use Rattle.directive_machine.specs.Course.{given}
 use Rattle.directive_machine.specs.Read.{course_of}
 use Rattle.directive_machine.proofs.Including.{settled_ok_by, settled_err_by}
 use Rattle.directive_machine.proofs.frames.settle_by.Goals as goal
