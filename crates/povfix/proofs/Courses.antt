@@ -14,7 +14,7 @@ use Rattle.povfix.specs.declared.outcome.Fault.{Fault}
 use Rattle.povfix.specs.declared.outcome.Fault.TheVariants.{Done, OptionFault, SceneFault, Limit, Absent, TextFault, ShelfFault, MessageFault, NoMemory}
 use Rattle.povfix.specs.Frames.{Frame, frame_of, frames_from, frames_of, is_summed, reached_by, AreStored, IsBeside, IsExpanded, IsFinished, IsStored, SameBesides}
 use Rattle.povfix.specs.Lines.{summary_of, Says}
-use Rattle.povfix.specs.Said.{IsFrameSaid, IsSaid, no_memory_line, shelf_fault_line, text_fault_line}
+use Rattle.povfix.specs.Said.{Begins, IsFrameSaid, IsSaid, NextBegins, no_memory_line, shelf_fault_line, text_fault_line}
 use Rattle.povfix.specs.Steps.{IsCourse, IsDone, IsEnd, IsEnding}
 use Rattle.povfix.specs.Verdict.{AreDrawn, FrameVerdict, FramesVerdict, IsFrameFault, IsVerdict, NextSays, Verdict, behind, done, with_summary}
 use Rattle.povfix.proofs.Saying.{less_at, rose_from, says_behind, says_same, with_both, with_nothing}
@@ -130,6 +130,13 @@ next_at plan texts n (suc k) zero summary found lt expanded = absurd (omega (ari
 next_at plan texts n zero (suc count) summary found lt expanded = (found, subst (λ m. IsExpanded (frame_of plan m) texts found) (from_start n) expanded, refl)
 next_at plan texts n (suc k) (suc count) summary found lt expanded = next_at plan texts (n + 1) k count summary found (omega (arith, lt)) (subst (λ m. IsExpanded (frame_of plan m) texts found) (sym (two_steps n k)) expanded)
 
+next_begins_at : (plan : Plan) (texts : List Text) (n k count : ℕ) (part : List ℕ) → k < count → Begins (frame_of plan (n + k)) texts part → NextBegins (frames_from plan n count) texts k part
+unfolding frames_from
+next_begins_at plan texts n zero zero part lt begun = absurd (omega (arith, lt))
+next_begins_at plan texts n (suc k) zero part lt begun = absurd (omega (arith, lt))
+next_begins_at plan texts n zero (suc count) part lt begun = subst (λ m. Begins (frame_of plan m) texts part) (from_start n) begun
+next_begins_at plan texts n (suc k) (suc count) part lt begun = next_begins_at plan texts (n + 1) k count part (omega (arith, lt)) (subst (λ m. Begins (frame_of plan m) texts part) (sym (two_steps n k)) begun)
+
 -- what holds of the first so many and of the next one holds of one more
 one_more : (P : ℕ → Type 0) (k : ℕ) → ((i : ℕ) → i < k → P i) → P k → (i : ℕ) → i < k + 1 → P i
 one_more P k all here i lt = ⊎_elim (λ (low : i < k). all i low) (λ (high : k ≤ i). (let same : k ≡ i = omega (arith, high, lt) in subst P same here)) (cases_lt i k)
@@ -192,6 +199,9 @@ module _ (plan : Plan) (texts : List Text) (before mid now : Option (List ℕ)) 
   follows : (rest : List ℕ) → Says mid now fm fn rest → Says before now fb fn (messages ++ rest)
   follows rest says = says_behind before mid now fb fm fn messages rest is later says
 
+  next_begins : (part : List ℕ) → Begins (frame_of plan (plan.from + k)) texts part → NextBegins (frames_of plan) texts k part
+  next_begins part begun = next_begins_at plan texts plan.from k (plan.to - plan.from + 1) part lt begun
+
   verdict_said : (fault : Fault) → fault ≢ Done → (said : (verdict : Verdict) × FrameVerdict (frame_of plan (plan.from + k)) texts verdict × (fault ≡ verdict.fault) × Says mid now fm fn (verdict.messages ++ verdict.line)) → (verdict : Verdict) × IsVerdict (Ok plan) texts k verdict × (fault ≡ verdict.fault) × Says before now fb fn (verdict.messages ++ verdict.line)
   verdict_said fault other said = (
     behind messages total said.0,
@@ -206,8 +216,8 @@ module _ (plan : Plan) (texts : List Text) (before mid now : Option (List ℕ)) 
   said_at (SceneFault letter kind place) said = verdict_said (SceneFault letter kind place) (λ e. cc) said
   said_at (Limit which place) said = verdict_said (Limit which place) (λ e. cc) said
   said_at (Absent name) said = verdict_said (Absent name) (λ e. cc) said
-  said_at TextFault said = (messages, total, said.0, front, follows (said.0 ++ text_fault_line) said.1)
-  said_at NoMemory said = (messages, total, said.0, front, follows (said.0 ++ no_memory_line) said.1)
+  said_at TextFault said = (messages, total, said.0, front, next_begins said.0 said.1, follows (said.0 ++ text_fault_line) said.2)
+  said_at NoMemory said = (messages, total, said.0, front, next_begins said.0 said.1, follows (said.0 ++ no_memory_line) said.2)
   said_at ShelfFault said = (
     messages ++ said.0,
     total + said.1,

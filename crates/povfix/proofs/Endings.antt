@@ -30,10 +30,12 @@ use Rattle.povfix.specs.declared.outcome.Fault.TheVariants.{Done, OptionFault, S
 use Rattle.povfix.specs.Conversions.{error_text, hold_fault, stop_fault}
 use Rattle.povfix.specs.Frames.{Frame, filed, format_of, frame_of, generated_for, sight_of, IsExpanded, IsMeaning, IsStopped, Shows}
 use Rattle.povfix.specs.Lines.{line_left, line_of, messages_left, name_under, text_number, IsPlaced, Says}
-use Rattle.povfix.specs.Said.{IsFrameSaid}
+use Rattle.povfix.specs.Said.{Begins, IsFrameSaid}
 use Rattle.povfix.specs.Scenes.{drawable, sheets_fault, without_sheets, IsRead}
 use Rattle.povfix.specs.Steps.{IsCarried, IsCut, IsEnd, IsLeft, IsUnparsed}
 use Rattle.povfix.specs.Verdict.{FrameVerdict, done}
+use Rattle.povfix.proofs.Beginnings.{carried_begins, nothing_begins, verdict_begins}
+use Rattle.povfix.proofs.OneFrame.{OneExpansion}
 use Rattle.povfix.proofs.Saying.{rose_to, says_behind, says_nothing, says_same, with_nothing}
 
 -- ---- what the directives come to, under other spellings of what they are given
@@ -91,14 +93,15 @@ module _ (frame : Frame) (told : Option (List Text)) (tb tn shelf kb kn : ℕ) (
   refused_cut MessageFault report refusal left = absurd refusal
   refused_cut NoMemory report refusal left = absurd refusal
 
-  abbrev Written : Type 0
-  Written = (texts : List Text) → told ≡ Some texts → (messages : List ℕ) × (now ≡ with_bytes before messages)
+  -- what is written, and what is left to say, stands first in what the frame says
+  abbrev Begun : Option Report → Type 0
+  Begun report = (texts : List Text) → told ≡ Some texts → (messages : List ℕ) × (now ≡ with_bytes before messages) × Begins frame texts (messages ++ messages_left report)
 
-  pub no_memory_cut : (report : Option Report) → Written → Cut (record { fault = NoMemory; report = report })
-  no_memory_cut report written = record { ends = tt; left = written; text_fault = λ e. cc; shelf_fault = λ e. cc; message_fault = λ e. cc }
+  pub no_memory_cut : (report : Option Report) → Begun report → Cut (record { fault = NoMemory; report = report })
+  no_memory_cut report begun = record { ends = tt; left = begun; text_fault = λ e. cc; shelf_fault = λ e. cc; message_fault = λ e. cc }
 
-  text_cut : (report : Option Report) → Written → Rose tb tn → Cut (record { fault = TextFault; report = report })
-  text_cut report written rose = record { ends = tt; left = written; text_fault = λ e. rose; shelf_fault = λ e. cc; message_fault = λ e. cc }
+  text_cut : (report : Option Report) → Begun report → Rose tb tn → Cut (record { fault = TextFault; report = report })
+  text_cut report begun rose = record { ends = tt; left = begun; text_fault = λ e. rose; shelf_fault = λ e. cc; message_fault = λ e. cc }
 
   -- the messages of a frame whose directives are carried out can't be written
   unwritten : ((texts : List Text) → told ≡ Some texts → (found : Handed) × IsExpanded frame texts found × GrewByLess before now found.messages) → Rose kb kn → Cut (record { fault = MessageFault; report = None })
@@ -112,6 +115,21 @@ module _ (frame : Frame) (told : Option (List Text)) (tb tn shelf kb kn : ℕ) (
 
   pub unwritten_cut : (ending : Ending) → ending ≡ record { fault = MessageFault; report = None } → ((texts : List Text) → told ≡ Some texts → (found : Handed) × IsExpanded frame texts found × GrewByLess before now found.messages) → Rose kb kn → Cut ending
   unwritten_cut ending is part rose = subst Cut (sym is) (unwritten part rose)
+
+-- there is no memory before anything is said
+pub silent_cut : (frame : Frame) (told : Option (List Text)) (tb tn shelf kb kn : ℕ) (before : Option (List ℕ)) → IsCut frame told tb tn shelf shelf kb kn before before (record { fault = NoMemory; report = None })
+silent_cut frame told tb tn shelf kb kn before =
+    no_memory_cut frame told tb tn shelf kb kn before before None (λ texts held. ([], with_nothing before, nothing_begins frame texts))
+
+-- nothing is left to say
+begins_all : (frame : Frame) (texts : List Text) (report : Option Report) (messages : List ℕ) → messages_left report ≡ [] → Begins frame texts messages → Begins frame texts (messages ++ messages_left report)
+begins_all frame texts report messages none begun = subst (Begins frame texts) (sym (ap (λ more. messages ++ more) none ∙ append-nil messages)) begun
+
+-- the directives of a frame are carried out, and then there is no memory
+pub unfilled_cut : OneExpansion → (frame : Frame) (told : Option (List Text)) (tb tn shelf kb kn : ℕ) (before now : Option (List ℕ)) (found : Expansion) → ((texts : List Text) → told ≡ Some texts → IsCarried frame texts before now found) → (report : Option Report) → messages_left report ≡ [] → IsCut frame told tb tn shelf shelf kb kn before now (record { fault = NoMemory; report = report })
+unfilled_cut law frame told tb tn shelf kb kn before now found carried report none =
+    no_memory_cut frame told tb tn shelf kb kn before now report
+    (λ texts held. let here = carried texts held in (here.messages, here.written, begins_all frame texts report here.messages none (carried_begins law frame texts _ here.expanded)))
 
 -- the items of a frame are refused
 with_sheets : (sheets : List Sheet) (scene : SceneView) (fault : Fault) → Err fault ≡ without_sheets sheets scene → IsRefusal fault
@@ -127,7 +145,7 @@ undrawn (Err (ParseFault.Xform place step)) fault is other = let same : fault �
 undrawn (Err (ParseFault.Limit which place)) fault is other = let same : fault ≡ Limit which place = cc is in subst IsRefusal (sym same) tt
 undrawn (Err ParseFault.NoMemory) fault is other = absurd (other (cc is))
 
-module _ (frame : Frame) (told : Option (List Text)) (tb tn shelf kb kn : ℕ) (before now : Option (List ℕ)) (found : Expansion) (carried : (texts : List Text) → told ≡ Some texts → IsCarried frame texts before now found) (report : Option Report) (none : messages_left report ≡ []) where
+module _ (law : OneExpansion) (frame : Frame) (told : Option (List Text)) (tb tn shelf kb kn : ℕ) (before now : Option (List ℕ)) (found : Expansion) (carried : (texts : List Text) → told ≡ Some texts → IsCarried frame texts before now found) (report : Option Report) (none : messages_left report ≡ []) where
   abbrev IsLine : Fault → Type 0
   IsLine fault = line_left report fault ≡ line_of (name_under found.names.items (text_number fault)) [] fault
 
@@ -160,7 +178,7 @@ module _ (frame : Frame) (told : Option (List Text)) (tb tn shelf kb kn : ℕ) (
   cut_of TextFault read line = absurd (never TextFault (λ e. cc) (read (λ e. cc)))
   cut_of ShelfFault read line = absurd (never ShelfFault (λ e. cc) (read (λ e. cc)))
   cut_of MessageFault read line = absurd (never MessageFault (λ e. cc) (read (λ e. cc)))
-  cut_of NoMemory read line = no_memory_cut frame told tb tn shelf kb kn before now report (λ texts held. ((carried texts held).messages, (carried texts held).written))
+  cut_of NoMemory read line = unfilled_cut law frame told tb tn shelf kb kn before now found carried report none
 
 -- what is left to say of such a fault is its line
 pub unread : (set set' : Settings) (tokens : List Token) (found : Expansion) (fault : Fault) (ending : Ending) (report : Report) → tokens ≡ found.flat.tokens.items → set' ≡ set → ending ≡ record { fault = fault; report = Some report } → report.messages.items ≡ [] → report.name ≡ name_under found.names.items (text_number fault) → report.text ≡ [] → (fault ≢ NoMemory → IsRead tokens set' (Err fault)) → IsUnparsed set found ending
@@ -170,16 +188,20 @@ unread set set' tokens found fault ending report is_tokens is_set is none name t
   line = ap (λ n. line_of n report.text fault) name ∙ ap (λ t. line_of (name_under found.names.items (text_number fault)) t fault) text;
 })
 
-pub unparsed_cut : (frame : Frame) (told : Option (List Text)) (tb tn shelf kb kn : ℕ) (before now : Option (List ℕ)) (found : Expansion) (ending : Ending) → ((texts : List Text) → told ≡ Some texts → IsCarried frame texts before now found) → IsUnparsed frame.settings found ending → IsCut frame told tb tn shelf shelf kb kn before now ending
-unparsed_cut frame told tb tn shelf kb kn before now found ending carried un = cut_of frame told tb tn shelf kb kn before now found carried ending.report un.messages ending.fault un.read un.line
+pub unparsed_cut : OneExpansion → (frame : Frame) (told : Option (List Text)) (tb tn shelf kb kn : ℕ) (before now : Option (List ℕ)) (found : Expansion) (ending : Ending) → ((texts : List Text) → told ≡ Some texts → IsCarried frame texts before now found) → IsUnparsed frame.settings found ending → IsCut frame told tb tn shelf shelf kb kn before now ending
+unparsed_cut law frame told tb tn shelf kb kn before now found ending carried un = cut_of law frame told tb tn shelf kb kn before now found carried ending.report un.messages ending.fault un.read un.line
 
 -- the directives of a frame stop; nothing is written yet
-module _ (frame : Frame) (told : Option (List Text)) (tb tn shelf kb kn : ℕ) (before : Option (List ℕ)) (names : List (List ℕ)) (one : Report) where
+module _ (frame : Frame) (told : Option (List Text)) (tb tn shelf kb kn : ℕ) (before : Option (List ℕ)) (names : List (List ℕ)) (one : Report) (begun : (texts : List Text) → told ≡ Some texts → Begins frame texts one.messages.items) where
   abbrev left_of : Stop → Option Report
   left_of stop = Some (record { messages = one.messages; name = name_under names (text_number (stop_fault stop)); text = error_text stop })
 
   told_of : (stop : Stop) → ((texts : List Text) → told ≡ Some texts → IsStopped frame texts (record { stop = stop; messages = one.messages.items; names = names })) → Told frame told tb tn shelf kb kn before before (stop_fault stop) (left_of stop)
   told_of stop stops texts held = ([], with_nothing before, FrameVerdict.stopped _ (stops texts held))
+
+  -- nothing is written, and the messages are left
+  begun_of : (stop : Stop) → Begun frame told tb tn shelf kb kn before before (left_of stop)
+  begun_of stop texts held = ([], with_nothing before, begun texts held)
 
   stop_cut : (stop : Stop) → (stop ≢ Stop.NoMemory → stop ≢ Stop.TextFault → (texts : List Text) → told ≡ Some texts → IsStopped frame texts (record { stop = stop; messages = one.messages.items; names = names })) → (stop ≡ Stop.TextFault → Rose tb tn) → IsCut frame told tb tn shelf shelf kb kn before before (record { fault = stop_fault stop; report = left_of stop })
   stop_cut (Stop.Lex (LexFault.BadByte place)) why rose = refused_cut frame told tb tn shelf kb kn before before _ _ tt (told_of (Stop.Lex (LexFault.BadByte place)) (why (λ e. cc) (λ e. cc)))
@@ -187,19 +209,19 @@ module _ (frame : Frame) (told : Option (List Text)) (tb tn shelf kb kn : ℕ) (
   stop_cut (Stop.Lex (LexFault.OpenString place)) why rose = refused_cut frame told tb tn shelf kb kn before before _ _ tt (told_of (Stop.Lex (LexFault.OpenString place)) (why (λ e. cc) (λ e. cc)))
   stop_cut (Stop.Lex (LexFault.LongName place)) why rose = refused_cut frame told tb tn shelf kb kn before before _ _ tt (told_of (Stop.Lex (LexFault.LongName place)) (why (λ e. cc) (λ e. cc)))
   stop_cut (Stop.Lex (LexFault.NumberRange place)) why rose = refused_cut frame told tb tn shelf kb kn before before _ _ tt (told_of (Stop.Lex (LexFault.NumberRange place)) (why (λ e. cc) (λ e. cc)))
-  stop_cut (Stop.Lex LexFault.NoMemory) why rose = no_memory_cut frame told tb tn shelf kb kn before before _ (λ texts held. ([], with_nothing before))
+  stop_cut (Stop.Lex LexFault.NoMemory) why rose = no_memory_cut frame told tb tn shelf kb kn before before _ (begun_of (Stop.Lex LexFault.NoMemory))
   stop_cut (Stop.Expr (ExprFault.Expected place)) why rose = refused_cut frame told tb tn shelf kb kn before before _ _ tt (told_of (Stop.Expr (ExprFault.Expected place)) (why (λ e. cc) (λ e. cc)))
   stop_cut (Stop.Expr (ExprFault.UnknownName place)) why rose = refused_cut frame told tb tn shelf kb kn before before _ _ tt (told_of (Stop.Expr (ExprFault.UnknownName place)) (why (λ e. cc) (λ e. cc)))
   stop_cut (Stop.Expr (ExprFault.Kind place)) why rose = refused_cut frame told tb tn shelf kb kn before before _ _ tt (told_of (Stop.Expr (ExprFault.Kind place)) (why (λ e. cc) (λ e. cc)))
   stop_cut (Stop.Expr (ExprFault.ZeroDivisor place)) why rose = refused_cut frame told tb tn shelf kb kn before before _ _ tt (told_of (Stop.Expr (ExprFault.ZeroDivisor place)) (why (λ e. cc) (λ e. cc)))
   stop_cut (Stop.Expr (ExprFault.Range place)) why rose = refused_cut frame told tb tn shelf kb kn before before _ _ tt (told_of (Stop.Expr (ExprFault.Range place)) (why (λ e. cc) (λ e. cc)))
-  stop_cut (Stop.Expr ExprFault.NoMemory) why rose = no_memory_cut frame told tb tn shelf kb kn before before _ (λ texts held. ([], with_nothing before))
+  stop_cut (Stop.Expr ExprFault.NoMemory) why rose = no_memory_cut frame told tb tn shelf kb kn before before _ (begun_of (Stop.Expr ExprFault.NoMemory))
   stop_cut (Stop.Directive kind place) why rose = refused_cut frame told tb tn shelf kb kn before before _ _ tt (told_of (Stop.Directive kind place) (why (λ e. cc) (λ e. cc)))
   stop_cut (Stop.Absent name place) why rose = refused_cut frame told tb tn shelf kb kn before before _ _ tt (told_of (Stop.Absent name place) (why (λ e. cc) (λ e. cc)))
-  stop_cut Stop.TextFault why rose = text_cut frame told tb tn shelf kb kn before before _ (λ texts held. ([], with_nothing before)) (rose refl)
+  stop_cut Stop.TextFault why rose = text_cut frame told tb tn shelf kb kn before before _ (begun_of Stop.TextFault) (rose refl)
   stop_cut (Stop.UserError text place) why rose = refused_cut frame told tb tn shelf kb kn before before _ _ tt (told_of (Stop.UserError text place) (why (λ e. cc) (λ e. cc)))
   stop_cut (Stop.Limit which place) why rose = refused_cut frame told tb tn shelf kb kn before before _ _ tt (told_of (Stop.Limit which place) (why (λ e. cc) (λ e. cc)))
-  stop_cut Stop.NoMemory why rose = no_memory_cut frame told tb tn shelf kb kn before before _ (λ texts held. ([], with_nothing before))
+  stop_cut Stop.NoMemory why rose = no_memory_cut frame told tb tn shelf kb kn before before _ (begun_of Stop.NoMemory)
 
   pub stopped_cut : (stop : Stop) (fault : Fault) (text : List ℕ) (ending : Ending) → fault ≡ stop_fault stop → text ≡ error_text stop → ending ≡ record { fault = fault; report = Some (record { messages = one.messages; name = name_under names (text_number fault); text = text }) } → (stop ≢ Stop.NoMemory → stop ≢ Stop.TextFault → (texts : List Text) → told ≡ Some texts → IsStopped frame texts (record { stop = stop; messages = one.messages.items; names = names })) → (stop ≡ Stop.TextFault → Rose tb tn) → IsCut frame told tb tn shelf shelf kb kn before before ending
   stopped_cut stop fault text ending is_fault is_text is why rose =
@@ -229,17 +251,17 @@ module _ (frame : Frame) (texts : List Text) (before now : Option (List ℕ)) (f
   drawn_verdict = let said = drawn_said (sum picture) refl in (said.0, sum picture, said.1, said.2)
 
 -- a storage that fails, or has no memory for the file
-pub stored_cut : (frame : Frame) (told : Option (List Text)) (tb tn sb sn kb kn : ℕ) (before now : Option (List ℕ)) (fail : HoldFail) → ((texts : List Text) → told ≡ Some texts → (messages : List ℕ) × (total : ℕ) × FrameVerdict frame texts (done messages total) × (now ≡ with_bytes before messages)) → (fail ≡ HoldFail.Failed → Rose sb sn) → IsCut frame told tb tn sb sn kb kn before now (record { fault = hold_fault fail; report = None })
-stored_cut frame told tb tn sb sn kb kn before now HoldFail.Failed verdict rose = record {
+pub stored_cut : OneExpansion → (frame : Frame) (told : Option (List Text)) (tb tn sb sn kb kn : ℕ) (before now : Option (List ℕ)) (fail : HoldFail) → ((texts : List Text) → told ≡ Some texts → (messages : List ℕ) × (total : ℕ) × FrameVerdict frame texts (done messages total) × (now ≡ with_bytes before messages)) → (fail ≡ HoldFail.Failed → Rose sb sn) → IsCut frame told tb tn sb sn kb kn before now (record { fault = hold_fault fail; report = None })
+stored_cut law frame told tb tn sb sn kb kn before now HoldFail.Failed verdict rose = record {
   ends = tt;
   left = λ texts held. let drawn = verdict texts held in (drawn.0, drawn.1, drawn.2, drawn.3, refl);
   text_fault = λ e. cc;
   shelf_fault = λ e. rose refl;
   message_fault = λ e. cc;
 }
-stored_cut frame told tb tn sb sn kb kn before now HoldFail.NoMemory verdict rose = record {
+stored_cut law frame told tb tn sb sn kb kn before now HoldFail.NoMemory verdict rose = record {
   ends = tt;
-  left = λ texts held. let drawn = verdict texts held in (drawn.0, drawn.3);
+  left = λ texts held. let drawn = verdict texts held in (drawn.0, drawn.3, begins_all frame texts None drawn.0 refl (verdict_begins law frame texts _ drawn.2));
   text_fault = λ e. cc;
   shelf_fault = λ e. cc;
   message_fault = λ e. cc;
@@ -272,7 +294,7 @@ shelf_left : (report : Option Report) → line_left report ShelfFault ≡ line_o
 shelf_left None = refl
 shelf_left (Some report) = refl
 
-module _ (frame : Frame) (texts : List Text) (before mid now : Option (List ℕ)) (kb km kn : ℕ) (later : kb ≤ km) where
+module _ (law : OneExpansion) (frame : Frame) (texts : List Text) (before mid now : Option (List ℕ)) (kb km kn : ℕ) (later : kb ≤ km) where
   -- what was written, what was left, and the line
   whole : (messages : List ℕ) (report : Option Report) (line : List ℕ) → mid ≡ with_bytes before messages → Says mid now km kn (messages_left report ++ line) → Says before now kb kn ((messages ++ messages_left report) ++ line)
   whole messages report line is says =
@@ -285,8 +307,8 @@ module _ (frame : Frame) (texts : List Text) (before mid now : Option (List ℕ)
   said_of (SceneFault letter kind place) report left says = (_, left.2, refl, whole left.0 report (line_left report (SceneFault letter kind place)) left.1 says)
   said_of (Limit which place) report left says = (_, left.2, refl, whole left.0 report (line_left report (Limit which place)) left.1 says)
   said_of (Absent name) report left says = (_, left.2, refl, whole left.0 report (line_left report (Absent name)) left.1 says)
-  said_of TextFault report left says = (left.0 ++ messages_left report, subst (λ l. Says before now kb kn ((left.0 ++ messages_left report) ++ l)) (text_left report) (whole left.0 report (line_left report TextFault) left.1 says))
-  said_of NoMemory report left says = (left.0 ++ messages_left report, subst (λ l. Says before now kb kn ((left.0 ++ messages_left report) ++ l)) (no_memory_left report) (whole left.0 report (line_left report NoMemory) left.1 says))
+  said_of TextFault report left says = (left.0 ++ messages_left report, left.2, subst (λ l. Says before now kb kn ((left.0 ++ messages_left report) ++ l)) (text_left report) (whole left.0 report (line_left report TextFault) left.1 says))
+  said_of NoMemory report left says = (left.0 ++ messages_left report, left.2, subst (λ l. Says before now kb kn ((left.0 ++ messages_left report) ++ l)) (no_memory_left report) (whole left.0 report (line_left report NoMemory) left.1 says))
   said_of ShelfFault report left says = (
     left.0,
     left.1,
@@ -300,9 +322,9 @@ module _ (frame : Frame) (texts : List Text) (before mid now : Option (List ℕ)
 
   -- there is no memory for the line
   unsaid_of : (fault : Fault) (report : Option Report) → IsPlaced fault → IsLeft frame texts before mid (record { fault = fault; report = report }) fault → Says mid now km kn (messages_left report ++ line_left report NoMemory) → IsFrameSaid frame texts NoMemory before now kb kn
-  unsaid_of (SceneFault letter kind place) report placed left says = said_of NoMemory report (left.0, left.1) says
-  unsaid_of (Limit which place) report placed left says = said_of NoMemory report (left.0, left.1) says
-  unsaid_of (Absent name) report placed left says = said_of NoMemory report (left.0, left.1) says
+  unsaid_of (SceneFault letter kind place) report placed left says = said_of NoMemory report (left.0, left.1, verdict_begins law frame texts _ left.2) says
+  unsaid_of (Limit which place) report placed left says = said_of NoMemory report (left.0, left.1, verdict_begins law frame texts _ left.2) says
+  unsaid_of (Absent name) report placed left says = said_of NoMemory report (left.0, left.1, verdict_begins law frame texts _ left.2) says
   unsaid_of (OptionFault kind place) report placed left says = absurd left
   unsaid_of Done report placed left says = absurd placed
   unsaid_of TextFault report placed left says = absurd placed
@@ -321,14 +343,14 @@ placed_other ShelfFault placed = absurd placed
 placed_other MessageFault placed = absurd placed
 placed_other NoMemory placed = absurd placed
 
-module _ (frame : Frame) (told : Option (List Text)) (tb tn sb sn kb km kn : ℕ) (old new images images' : Contents) (before mid now : Option (List ℕ)) (later : kb ≤ km) (last : km ≤ kn) (fault : Fault) (report : Option Report) (cut : IsCut frame told tb tn sb sn kb km before mid (record { fault = fault; report = report })) (kept : fault ≢ ShelfFault → SameContents old new) (crash_kept : fault ≢ ShelfFault → SameContents images images') where
+module _ (law : OneExpansion) (frame : Frame) (told : Option (List Text)) (tb tn sb sn kb km kn : ℕ) (old new images images' : Contents) (before mid now : Option (List ℕ)) (later : kb ≤ km) (last : km ≤ kn) (fault : Fault) (report : Option Report) (cut : IsCut frame told tb tn sb sn kb km before mid (record { fault = fault; report = report })) (kept : fault ≢ ShelfFault → SameContents old new) (crash_kept : fault ≢ ShelfFault → SameContents images images') where
   abbrev End : Fault → Type 0
   End = IsEnd frame told tb tn sb sn kb kn old new images images' before now
 
   as_told : Says mid now km kn (messages_left report ++ line_left report fault) → End fault
   as_told says = record {
     ending = cut.ends;
-    said = λ texts held. said_of frame texts before mid now kb km kn later fault report (cut.left texts held) says;
+    said = λ texts held. said_of law frame texts before mid now kb km kn later fault report (cut.left texts held) says;
     text_fault = cut.text_fault;
     shelf_fault = cut.shelf_fault;
     message_fault = λ e. rose_to kb km kn (cut.message_fault e) last;
@@ -339,7 +361,7 @@ module _ (frame : Frame) (told : Option (List Text)) (tb tn sb sn kb km kn : ℕ
   without_line : IsPlaced fault → Says mid now km kn (messages_left report ++ line_left report NoMemory) → End NoMemory
   without_line placed says = record {
     ending = tt;
-    said = λ texts held. unsaid_of frame texts before mid now kb km kn later fault report placed (cut.left texts held) says;
+    said = λ texts held. unsaid_of law frame texts before mid now kb km kn later fault report placed (cut.left texts held) says;
     text_fault = λ e. cc;
     shelf_fault = λ e. cc;
     message_fault = λ e. cc;

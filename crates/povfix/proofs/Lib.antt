@@ -1,6 +1,7 @@
 pub mod Storing
 pub mod Saying
 pub mod Reports
+pub mod Beginnings
 pub mod Endings
 pub mod Courses
 pub mod OneFrame

@@ -12,6 +12,7 @@ use Rattle.povfix.specs.Lines.{summary_of}
 use Rattle.povfix.specs.Said.{IsSaid, no_memory_line}
 use Rattle.povfix.specs.Steps.{fault_of, IsCourseSaid, IsSummed}
 use Rattle.povfix.specs.Verdict.{AreDrawn, FramesVerdict, NextSays, done, summed}
+use Rattle.povfix.proofs.Beginnings.{nothing_next}
 use Rattle.povfix.proofs.Courses.{done_same}
 use Rattle.povfix.proofs.Saying.{less_at, says_behind, with_both}
 use Rattle.povfix.proofs.Verdicts.{ended_said}
@@ -42,7 +43,7 @@ module _ (plan : Plan) (texts : List Text) (n total : ℕ) (before mid now : Opt
     is ∙ ap (λ w. with_bytes w summary) said.2 ∙ with_both before said.0 summary,
   )
   summed_said MessageFault is = (said.0, total, summary, said.1, next_last (frames_of plan) texts n summary all, less_at mid (with_bytes before said.0) now summary said.2 is.0)
-  summed_said NoMemory is = (said.0, total, [], said.1, says_behind before mid now fb fm fn said.0 no_memory_line said.2 later is.1)
+  summed_said NoMemory is = (said.0, total, [], said.1, nothing_next (frames_of plan) texts n, says_behind before mid now fb fm fn said.0 no_memory_line said.2 later is.1)
   summed_said (OptionFault kind place) is = absurd is
   summed_said (SceneFault letter kind place) is = absurd is
   summed_said (Limit which place) is = absurd is

@@ -13,11 +13,12 @@ use Rattle.povfix.specs.declared.ending.Ending.{Ending}
 use Rattle.povfix.specs.declared.outcome.Fault.{Fault}
 use Rattle.povfix.specs.declared.outcome.Fault.TheVariants.{Done, OptionFault, SceneFault, Limit, Absent, TextFault, ShelfFault, MessageFault, NoMemory}
 use Rattle.povfix.specs.Conversions.{error_text, option_fault, stop_fault}
-use Rattle.povfix.specs.Frames.{Frame, frames_of, IsExpanded, Shows}
+use Rattle.povfix.specs.Frames.{Frame, frames_in, frames_of, IsExpanded, Shows}
 use Rattle.povfix.specs.Lines.{line_left, line_of, messages_left, IsPlaced, Says}
 use Rattle.povfix.specs.Scenes.{IsRead}
 use Rattle.povfix.specs.Verdict.{FrameVerdict, FramesVerdict, IsCaused, IsVerdict, Verdict, behind, done, refused, summed}
 use Rattle.povfix.specs.Said.{IsSaid}
+use Rattle.povfix.proofs.Beginnings.{nothing_next}
 use Rattle.povfix.proofs.Courses.{done_same}
 use Rattle.povfix.proofs.OneFrame.{OneExpansion, OneScene, not_both, one_expanded, one_read, one_stopped}
 
@@ -130,7 +131,7 @@ refused_as kind place texts refusal asked reported before now fb fn is answer sa
 
 pub refused_said : (texts : List Text) (refusal : Refused) (asked : Result Plan Refused) (reported : Fault) (before now : Option (List ℕ)) (fb fn : ℕ) → Reads asked (Err refusal) → (reported ≡ option_fault refusal) ⊎ ((reported ≡ NoMemory) × IsPlaced (option_fault refusal)) → Says before now fb fn (line_of [] [] reported) → IsSaid asked texts 0 reported before now fb fn
 refused_said texts refusal asked reported before now fb fn read (inr none) says =
-    subst (λ f. IsSaid asked texts 0 f before now fb fn) (sym none.0) ([], 0, [], (refl, refl), subst (λ f. Says before now fb fn (line_of [] [] f)) none.0 says)
+    subst (λ f. IsSaid asked texts 0 f before now fb fn) (sym none.0) ([], 0, [], (refl, refl), nothing_next (frames_in asked) texts 0, subst (λ f. Says before now fb fn (line_of [] [] f)) none.0 says)
 refused_said texts (UnknownWord place) asked reported before now fb fn read (inl same) says = refused_as 1 place texts (UnknownWord place) asked reported before now fb fn refl read same says
 refused_said texts (BadNumber place) asked reported before now fb fn read (inl same) says = refused_as 2 place texts (BadNumber place) asked reported before now fb fn refl read same says
 refused_said texts (Missing place) asked reported before now fb fn read (inl same) says = refused_as 3 place texts (Missing place) asked reported before now fb fn refl read same says
@@ -139,9 +140,9 @@ refused_said texts (AbsentIni place) asked reported before now fb fn read (inl s
 refused_said texts (BadLine place) asked reported before now fb fn read (inl same) says = refused_as 6 place texts (BadLine place) asked reported before now fb fn refl read same says
 refused_said texts (OutOfProfile place) asked reported before now fb fn read (inl same) says = refused_as 7 place texts (OutOfProfile place) asked reported before now fb fn refl read same says
 refused_said texts Refused.TextFault asked reported before now fb fn read (inl same) says =
-    subst (λ f. IsSaid asked texts 0 f before now fb fn) (sym same) ([], 0, [], (refl, refl), subst (λ f. Says before now fb fn (line_of [] [] f)) same says)
+    subst (λ f. IsSaid asked texts 0 f before now fb fn) (sym same) ([], 0, [], (refl, refl), nothing_next (frames_in asked) texts 0, subst (λ f. Says before now fb fn (line_of [] [] f)) same says)
 refused_said texts Refused.NoMemory asked reported before now fb fn read (inl same) says =
-    subst (λ f. IsSaid asked texts 0 f before now fb fn) (sym same) ([], 0, [], (refl, refl), subst (λ f. Says before now fb fn (line_of [] [] f)) same says)
+    subst (λ f. IsSaid asked texts 0 f before now fb fn) (sym same) ([], 0, [], (refl, refl), nothing_next (frames_in asked) texts 0, subst (λ f. Says before now fb fn (line_of [] [] f)) same says)
 
 pub refusal_said : (asked : Result Plan Refused) (texts : List Text) (refusal : Refused) (ending : Ending) (fault reported reported' : Fault) (n : ℕ) (before now : Option (List ℕ)) (fb fn : ℕ) → Reads asked (Err refusal) → fault ≡ option_fault refusal → ending ≡ record { fault = fault; report = None } → (reported ≡ ending.fault) ⊎ ((reported ≡ NoMemory) × IsPlaced ending.fault) → Says before now fb fn (messages_left ending.report ++ line_left ending.report reported) → n ≡ 0 → reported' ≡ reported → IsSaid asked texts n reported' before now fb fn
 refusal_said asked texts refusal ending fault reported reported' n before now fb fn read is_fault is answer says none same =

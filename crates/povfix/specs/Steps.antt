@@ -13,7 +13,7 @@ use Rattle.povfix.specs.declared.outcome.Fault.{Fault}
 use Rattle.povfix.specs.declared.outcome.Fault.TheVariants.{Done, OptionFault, TextFault, ShelfFault, MessageFault, NoMemory}
 use Rattle.povfix.specs.Frames.{Frame, frames_of, reached_by, AreStored, IsExpanded, IsFinished, SameBesides}
 use Rattle.povfix.specs.Lines.{line_left, line_of, messages_left, name_under, text_number, Says}
-use Rattle.povfix.specs.Said.{IsFrameSaid, IsSaid, no_memory_line}
+use Rattle.povfix.specs.Said.{Begins, IsFrameSaid, IsSaid, no_memory_line}
 use Rattle.povfix.specs.Scenes.{IsRead}
 use Rattle.povfix.specs.Verdict.{AreDrawn, FrameVerdict, IsFrameFault, done}
 
@@ -37,7 +37,7 @@ pub record IsUnparsed (set : Settings) (found : Expansion) (ending : Ending) : T
   pub messages : messages_left ending.report ≡ []
   pub line : line_left ending.report ending.fault ≡ line_of (name_under found.names.items (text_number ending.fault)) [] ending.fault
 
--- the messages that are written, and what is left to say, are those of what the frame comes to
+-- the messages that are written, and what is left to say, are those of what the frame comes to, or stand first in what it says
 abbrev pub IsLeft : Frame → List Text → Option (List ℕ) → Option (List ℕ) → Ending → Fault → Type 0
 IsLeft frame texts before now ending Done = ⊥
 IsLeft frame texts before now ending (OptionFault kind place) = ⊥
@@ -45,8 +45,10 @@ IsLeft frame texts before now ending MessageFault =
     (found : Handed) × IsExpanded frame texts found × GrewByLess before now found.messages × (messages_left ending.report ≡ [])
 IsLeft frame texts before now ending ShelfFault =
     (messages : List ℕ) × (total : ℕ) × FrameVerdict frame texts (done messages total) × (now ≡ with_bytes before messages) × (messages_left ending.report ≡ [])
-IsLeft frame texts before now ending TextFault = (messages : List ℕ) × (now ≡ with_bytes before messages)
-IsLeft frame texts before now ending NoMemory = (messages : List ℕ) × (now ≡ with_bytes before messages)
+IsLeft frame texts before now ending TextFault =
+    (messages : List ℕ) × (now ≡ with_bytes before messages) × Begins frame texts (messages ++ messages_left ending.report)
+IsLeft frame texts before now ending NoMemory =
+    (messages : List ℕ) × (now ≡ with_bytes before messages) × Begins frame texts (messages ++ messages_left ending.report)
 IsLeft frame texts before now ending fault =
     (messages : List ℕ) × (now ≡ with_bytes before messages)
     × FrameVerdict frame texts (record { fault = fault; messages = messages ++ messages_left ending.report; total = 0; line = line_left ending.report fault })

@@ -21,7 +21,7 @@ use crate::law::one_verdict;
 use crate::outcome::{Fault, Outcome};
 use crate::say::{report, summed};
 use crate::store::store;
-use directive_machine::Texts;
+use directive_machine::{Texts, one_expansion};
 use image_out::{Picture, put, room};
 use options::{Plan, file_name, names_differ};
 use shelf::{Shelf, Sink};
@@ -74,6 +74,7 @@ fn rendered<T: Texts, S: Shelf, K: Sink>(
     ensures shelf_later { S.faults shelf.old ≤ S.faults shelf.new }
     ensures sink_later { K.faults messages.old ≤ K.faults messages.new }
 {
+    one_expansion();
     let found = expanded(alloc, plan, number, texts, messages)?;
     let scene = parsed(alloc, plan, number, found)?;
     let picture = draw(rt, alloc, plan, scene)?;
@@ -110,6 +111,7 @@ fn frame<T: Texts, S: Shelf, K: Sink>(
     ensures shelf_later { S.faults shelf.old ≤ S.faults shelf.new }
     ensures sink_later { K.faults messages.old ≤ K.faults messages.new }
 {
+    one_expansion();
     match rendered(rt, alloc, plan, number, texts, shelf, messages) {
         Ok(total) => Ok(total),
         Err(ending) => Err(report(alloc, messages, ending)),

@@ -337,3 +337,33 @@ fn an_include_that_cannot_be_read_is_told(rt: HostRuntime) -> Result<(), Fail> {
     assert_eq!(&rt; left.told.bytes(), b"atext fault\n".as_slice());
     Ok(())
 }
+
+/// Readings that fail, by their number, what is told, and how many frames are finished. Each frame reads two texts.
+const UNREAD: [(u64, &[u8], u32); 6] = [
+    (1, b"text fault\n", 0),
+    (2, b"<1text fault\n", 0),
+    (3, b"<1b>text fault\n", 1),
+    (4, b"<1b><2text fault\n", 1),
+    (6, b"<1b><2b><3text fault\n", 2),
+    (7, b"<1b><2b><3b>", 3),
+];
+
+/// A reading that fails in a later frame: the messages of the frames before it are told, and its own up to there.
+#[test]
+fn a_reading_that_fails_late_is_told(rt: HostRuntime) -> Result<(), Fail> {
+    let texts: [(&str, &[u8]); 2] = [
+        (
+            "a.pov",
+            b"#debug concat(\"<\", str(frame_number,0,0)) #include \"b.inc\" #debug \">\"",
+        ),
+        ("b.inc", b"#debug \"b\""),
+    ];
+    let words = ["+Ia.pov", "+W1", "+H1", "+KFF3"];
+    for (reading, said, finished) in UNREAD {
+        let left = tried(&rt, rt.alloc(), &words, &texts, 100, Some(reading))?;
+        assert_eq!(&rt; left.told.bytes(), said);
+        assert_eq!(&rt; left.outcome.finished, finished);
+        assert_eq!(&rt; left.outcome.status, if finished < 3 { 5 } else { 0 });
+    }
+    Ok(())
+}

@@ -6,7 +6,8 @@ use std::alloc::{AllocError, Global};
 use std::process::Abort;
 use std::test::Fail;
 
-const TEXT: &[u8] = b"sphere { <0,0,4>, 1 pigment { rgb <0,1,0> } finish { ambient 1 diffuse 0 } }";
+const TEXT: &[u8] =
+    b"#debug \"m\" sphere { <0,0,4>, 1 pigment { rgb <0,1,0> } finish { ambient 1 diffuse 0 } }";
 
 const PIXEL: &[u8] = b"P6\n1 1\n255\n\0\xff\0";
 
@@ -37,7 +38,8 @@ fn all_blocks(alloc: Global) -> Result<Vec<Vec<u8>>, AllocError> {
     Ok(blocks)
 }
 
-/// With the blocks taken a small picture is still made, so what the large one lacks is the memory of its pixels.
+/// With the blocks taken a small picture is still made, so what the large one lacks is the memory of its pixels. What
+/// each scene says is told before.
 #[test]
 fn a_picture_without_memory_is_refused(rt: HostRuntime) -> Result<(), Fail> {
     let alloc = rt.alloc();
@@ -57,7 +59,7 @@ fn a_picture_without_memory_is_refused(rt: HostRuntime) -> Result<(), Fail> {
     assert_eq!(&rt; outcome.status, 9);
     assert_eq!(&rt; outcome.finished, 0);
     assert_eq!(&rt; outcome.traced.as_slice(), &[] as &[Traced]);
-    assert_eq!(&rt; told.bytes(), b"no memory\n".as_slice());
+    assert_eq!(&rt; told.bytes(), b"mmno memory\n".as_slice());
     assert_eq!(&rt; outcome.shelf.contents(b"a.ppm"), PIXEL);
     Ok(())
 }

@@ -1,32 +1,32 @@
-use Rattle.std.proofs.Common.{◌∙◌, ap, sum, Err}
+use Rattle.std.proofs.Common.{◌∙◌, ap, refl, sum, Err, None}
 use Rattle.image_out.specs.Files.{file_of}
-use Rattle.povfix.proofs.Endings.{drawn_meaning, drawn_said, drawn_verdict, exit, no_memory_cut, stored_cut, stored_kept, stored_meaning, unparsed_cut}
+use Rattle.povfix.proofs.Endings.{drawn_meaning, drawn_said, drawn_verdict, exit, stored_cut, stored_kept, stored_meaning, unfilled_cut, unparsed_cut}
 use Rattle.povfix.proofs.render.rendered.Goals as goal
 
 pub returns-in_err-scene-clause-cut : goal.returns-in_err-scene-clause-cut
 returns-in_err-scene-clause-cut g c =
     exit _ _ _ c.from_residual-in_err-scene.ensures.1
-    (unparsed_cut _ _ _ _ _ _ _ _ _ c.in_ok-found.found _ c.in_ok-found.ensures.found c.in_err-scene.ensures.fault)
+    (unparsed_cut c.one_expansion.ensures _ _ _ _ _ _ _ _ _ c.in_ok-found.found _ c.in_ok-found.ensures.found c.in_err-scene.ensures.fault)
 
 pub returns-in_err-picture-clause-cut : goal.returns-in_err-picture-clause-cut
 returns-in_err-picture-clause-cut g c =
     exit _ _ _ c.from_residual-in_err-picture.ensures.1
-    (no_memory_cut _ _ _ _ _ _ _ _ _ _ (λ h held. let here = c.in_ok-found.ensures.found h held in (here.messages, here.written)))
+    (unfilled_cut c.one_expansion.ensures _ _ _ _ _ _ _ _ _ c.in_ok-found.found c.in_ok-found.ensures.found None refl)
 
 pub returns-in_err-file-clause-cut : goal.returns-in_err-file-clause-cut
 returns-in_err-file-clause-cut g c =
     exit _ _ _ c.from_residual-in_err-file.ensures.1
-    (no_memory_cut _ _ _ _ _ _ _ _ _ _ (λ h held. let here = c.in_ok-found.ensures.found h held in (here.messages, here.written)))
+    (unfilled_cut c.one_expansion.ensures _ _ _ _ _ _ _ _ _ c.in_ok-found.found c.in_ok-found.ensures.found None refl)
 
 pub returns-in_err-name-clause-cut : goal.returns-in_err-name-clause-cut
 returns-in_err-name-clause-cut g c =
     exit _ _ _ c.from_residual-in_err-name.ensures.1
-    (no_memory_cut _ _ _ _ _ _ _ _ _ _ (λ h held. let here = c.in_ok-found.ensures.found h held in (here.messages, here.written)))
+    (unfilled_cut c.one_expansion.ensures _ _ _ _ _ _ _ _ _ c.in_ok-found.found c.in_ok-found.ensures.found None refl)
 
 pub returns-in_err-store-clause-cut : goal.returns-in_err-store-clause-cut
 returns-in_err-store-clause-cut g c =
     exit _ _ _ c.from_residual-in_err-store.ensures.1
-    (stored_cut _ _ _ _ _ _ _ _ _ _ c.in_err-store.field-0.0
+    (stored_cut c.one_expansion.ensures _ _ _ _ _ _ _ _ _ _ c.in_err-store.field-0.0
     (λ h held. drawn_verdict _ h _ _ c.in_ok-found.found c.in_ok-scene.scene c.in_ok-picture.picture.items (c.in_ok-found.ensures.found h held) c.in_ok-scene.ensures.scene c.in_ok-picture.ensures.shown)
     (λ e. c.in_err-store.ensures.cause.rose (ap (λ fail. Err fail) e)))
 
