@@ -1,5 +1,5 @@
 // Vectors of length 1 unit.
-ghost use Rattle.std.specs.Prelude.{◌≡◌, ◌+◌, ◌*◌, ◌<◌, ◌≤◌, ◌^◌, pos, ◌*ℤ◌, unsigned_abs};
+ghost use Rattle.std.specs.Prelude.{◌≡◌, ◌+◌, ◌*◌, ◌<◌, ◌≤◌, ◌^◌, unsigned_abs};
 ghost use Rattle.fix_math.specs.Directions.{
   long_length_of,
   unit_of,
@@ -10,11 +10,12 @@ ghost use Rattle.fix_math.specs.Directions.{
   unit_wide_of,
 };
 ghost use Rattle.fix_math.specs.Matrices.{component};
-ghost use Rattle.fix_math.specs.Numbers.{rnd, shortened, is_raw};
+ghost use Rattle.fix_math.specs.Numbers.{shortened, is_raw};
 
-use crate::arithmetic::{rounded, rounded_shift};
+use crate::arithmetic::rounded_shift;
 use crate::fix::{Fix, V3};
 use crate::roots::isqrt;
+use crate::shares::Length;
 
 // A vector's length with 16 fraction bits more than a raw number has: 0 for the zero vector alone.
 fn long_length(v: &V3) -> u64
@@ -35,17 +36,6 @@ fn square(number: Fix) -> u128
     size * size
 }
 
-// A component's share of 1 unit, where the vector's length has 16 fraction bits more.
-fn share(component: Fix, length: u64) -> Fix
-    requires whole { 0 < length }
-    requires within { unsigned_abs component * 2 ^ 16 ≤ length }
-    ensures value { result ≡ rnd (component *ℤ pos (2 ^ 32)) (pos length) }
-    ensures small { unsigned_abs result ≤ 65536 }
-    ensures long { length ≤ unsigned_abs component * 2 ^ 17 → 32768 ≤ unsigned_abs result }
-{
-    Fix::from_known(rounded(component.wide() << 32, length as i128))
-}
-
 /// The vector of length 1 unit in the same direction; <0, 0, 1> for the zero vector.
 pub fn unit(v: V3) -> V3
     ensures value { result ≡ unit_of v }
@@ -62,10 +52,11 @@ pub fn unit(v: V3) -> V3
             z: Fix(65536),
         };
     }
+    let length = Length::new(length);
     V3 {
-        x: share(v.x, length),
-        y: share(v.y, length),
-        z: share(v.z, length),
+        x: length.share(v.x),
+        y: length.share(v.y),
+        z: length.share(v.z),
     }
 }
 

@@ -9,6 +9,7 @@ mod powers;
 mod root_guess;
 mod roots;
 mod rotations;
+mod shares;
 mod text;
 mod vectors;
 
