@@ -14,18 +14,19 @@ ghost use Rattle.fix_math.specs.Numbers.{shortened, is_raw};
 
 use crate::arithmetic::rounded_shift;
 use crate::fix::{Fix, V3};
-use crate::roots::isqrt;
+use crate::root_guess::RootGuess;
+use crate::roots::root_with_reciprocal;
 use crate::shares::Length;
 
 // A vector's length with 16 fraction bits more than a raw number has: 0 for the zero vector alone.
-fn long_length(v: &V3) -> u64
-    ensures value { result ≡ long_length_of v.now }
-    ensures x_within { unsigned_abs v.now.x * 2 ^ 16 ≤ result }
-    ensures y_within { unsigned_abs v.now.y * 2 ^ 16 ≤ result }
-    ensures z_within { unsigned_abs v.now.z * 2 ^ 16 ≤ result }
-    ensures short { result ≤ greatest_of v.now * 2 ^ 17 }
+fn long_length(v: &V3) -> RootGuess
+    ensures value { result.root ≡ long_length_of v.now }
+    ensures x_within { unsigned_abs v.now.x * 2 ^ 16 ≤ result.root }
+    ensures y_within { unsigned_abs v.now.y * 2 ^ 16 ≤ result.root }
+    ensures z_within { unsigned_abs v.now.z * 2 ^ 16 ≤ result.root }
+    ensures short { result.root ≤ greatest_of v.now * 2 ^ 17 }
 {
-    isqrt((square(v.x) + square(v.y) + square(v.z)) << 32)
+    root_with_reciprocal((square(v.x) + square(v.y) + square(v.z)) << 32)
 }
 
 fn square(number: Fix) -> u128
@@ -45,7 +46,7 @@ pub fn unit(v: V3) -> V3
     ensures long { 32768 ≤ greatest_of result }
 {
     let length = long_length(&v);
-    if length == 0 {
+    if length.root == 0 {
         return V3 {
             x: Fix(0),
             y: Fix(0),

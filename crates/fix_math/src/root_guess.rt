@@ -2,11 +2,27 @@
 // wrap.
 ghost use Rattle.std.specs.Prelude.{◌<◌, ◌≤◌, ◌^◌};
 
-/// The floor of the root, mostly.
+/// A root, mostly, and what tells its reciprocal.
+#[derive(Clone, Copy)]
+pub struct RootGuess {
+    /// The floor of the root, mostly.
+    pub root: u64,
+    /// About 2^(95 - pairs) over the root.
+    pub reciprocal: u64,
+    /// How many pairs of digits, each 0, the number begins with.
+    pub pairs: u32,
+    ghost few: { pairs ≤ 64 },
+}
+
+/// The root, mostly.
 #[inline]
-pub fn root_guess(n: u128) -> u64 {
+pub fn root_guess(n: u128) -> RootGuess {
     if n == 0 {
-        return 0;
+        return RootGuess {
+            root: 0,
+            reciprocal: 0,
+            pairs: 64,
+        };
     }
     let pairs = n.leading_zeros() / 2;
     let long = n << (2 * pairs);
@@ -15,7 +31,11 @@ pub fn root_guess(n: u128) -> u64 {
     let first = (half.wrapping_mul(share) >> 31) << 32;
     let second = corrected(long, first, share, 40, 56);
     let third = corrected(long, second, share, 8, 88);
-    rounded_down(n, third >> pairs)
+    RootGuess {
+        root: rounded_down(n, third >> pairs),
+        reciprocal: share,
+        pairs,
+    }
 }
 
 // About 2^31 over the root of a share of 2^64, by two steps of Newton's from a table. The share's

@@ -3,7 +3,7 @@ ghost use Rattle.std.specs.Prelude.{◌≡◌, ◌+◌, ◌*◌, ◌/◌, ◌<�
 ghost use Rattle.fix_math.specs.NearRoots.{IsNearRoot};
 ghost use Rattle.fix_math.specs.Roots.{root};
 
-use crate::root_guess::root_guess;
+use crate::root_guess::{RootGuess, root_guess};
 
 /// The floor of the square root.
 #[inline]
@@ -12,11 +12,24 @@ pub fn isqrt(n: u128) -> u64
     ensures least { result * result ≤ n }
     ensures most { n < (result + 1) * (result + 1) }
 {
+    root_with_reciprocal(n).root
+}
+
+/// The floor of the square root, with what tells its reciprocal, mostly.
+#[inline]
+pub fn root_with_reciprocal(n: u128) -> RootGuess
+    ensures value { result.root ≡ root n }
+    ensures least { result.root * result.root ≤ n }
+    ensures most { n < (result.root + 1) * (result.root + 1) }
+{
     let guess = root_guess(n);
-    if is_root(n, guess) {
-        guess
-    } else {
-        root_by_steps(n)
+    if is_root(n, guess.root) {
+        return guess;
+    }
+    RootGuess {
+        root: root_by_steps(n),
+        reciprocal: guess.reciprocal,
+        pairs: guess.pairs,
     }
 }
 

@@ -1,35 +1,33 @@
 // The shares that components have of their vector's length. A share is guessed by a reciprocal of
 // the length, and the guess is taken where a product shows that it is the rounded quotient.
-ghost use Rattle.std.specs.Prelude.{◌≡◌, ◌<◌, ◌≤◌, ◌+◌, ◌*◌, ◌^◌, Bool, true, false, pos, ◌+ℤ◌, ◌-ℤ◌, ◌*ℤ◌, ◌<ℤ◌, ◌≤ℤ◌, ◌&&◌, int_lt, int_le, unsigned_abs};
+ghost use Rattle.std.specs.Prelude.{◌≡◌, ◌<◌, ◌≤◌, ◌*◌, ◌^◌, true, pos, ◌+ℤ◌, ◌-ℤ◌, ◌*ℤ◌, ◌<ℤ◌, ◌≤ℤ◌, neg_ℤ, unsigned_abs};
 ghost use Rattle.fix_math.specs.Numbers.{rnd};
 
 use crate::arithmetic::rounded;
 use crate::fix::Fix;
+use crate::root_guess::RootGuess;
 
 /// A vector's length with 16 fraction bits more than a raw number has, and what a guess of shares
 /// asks of it.
 #[derive(Clone, Copy)]
 pub struct Length {
     length: u64,
-    /// About 2^63 over the first 32 digits of the length.
+    /// About 2^(bits + 33) over the length.
     reciprocal: u64,
-    /// How many digits twice a component's share has less than its product with the reciprocal.
     bits: u32,
     ghost whole: { 0 < length },
     ghost few: { bits ≤ 62 },
 }
 
 impl Length {
-    pub fn new(length: u64) -> Length
-        requires { 0 < length }
-        ensures { result.length ≡ length }
+    pub fn new(length: RootGuess) -> Length
+        requires { 0 < length.root }
+        ensures { result.length ≡ length.root }
     {
-        let zeros = length.leading_zeros();
-        let leading = length.wrapping_shl(zeros) >> 32;
         Length {
-            length,
-            reciprocal: (1 << 63) / leading.max(1),
-            bits: 62u32.saturating_sub(zeros),
+            length: length.root,
+            reciprocal: length.reciprocal,
+            bits: 62u32.saturating_sub(length.pairs),
         }
     }
 
@@ -41,8 +39,8 @@ impl Length {
         ensures long { self.now.length ≤ unsigned_abs component * 2 ^ 17 → 32768 ≤ unsigned_abs result }
     {
         let guess = self.guess(component);
-        if is_rounded(raised(component), self.length as i128, guess) {
-            Fix::from_known(guess)
+        if is_rounded(component, self.length, guess) {
+            guess
         } else {
             self.quotient(component)
         }
@@ -50,11 +48,11 @@ impl Length {
 
     // The share, mostly: nothing is promised of it but that it is a share.
     #[inline]
-    fn guess(&self, component: Fix) -> i128
+    fn guess(&self, component: Fix) -> Fix
         ensures { unsigned_abs result ≤ 65536 }
     {
         let twice = (component.wide() * self.reciprocal as i128) >> self.bits;
-        (twice.wrapping_add(1) >> 1).clamp(-65536, 65536)
+        Fix::from_known((twice.wrapping_add(1) >> 1).clamp(-65536, 65536))
     }
 
     #[inline(never)]
@@ -68,6 +66,18 @@ impl Length {
     }
 }
 
+// Whether a number is a component's rounded share of a length: twice what is left of the component
+// lies within the length.
+#[inline]
+fn is_rounded(component: Fix, length: u64, share: Fix) -> bool
+    requires share_small { unsigned_abs share ≤ 65536 }
+    requires whole { 0 < length }
+    ensures { result ≡ true → share ≡ rnd (component *ℤ pos (2 ^ 32)) (pos length) }
+{
+    let left = difference(raised(component), multiple(share, length));
+    is_rest(left, length as i128)
+}
+
 #[inline]
 fn raised(component: Fix) -> i128
     ensures value { result ≡ component *ℤ pos (2 ^ 32) }
@@ -76,53 +86,32 @@ fn raised(component: Fix) -> i128
     component.wide() << 32
 }
 
-// Whether a number is the rounded quotient.
 #[inline]
-fn is_rounded(dividend: i128, divisor: i128, quotient: i128) -> bool
-    requires dividend_small { unsigned_abs dividend ≤ 2 ^ 79 }
-    requires divisor_positive { pos 0 <ℤ divisor }
-    requires divisor_small { unsigned_abs divisor ≤ 2 ^ 64 }
-    requires quotient_small { unsigned_abs quotient ≤ 65536 }
-    ensures { result ≡ true → quotient ≡ rnd dividend divisor }
-{
-    let twice = doubled(divisor);
-    let left = difference(doubled(dividend), divisor, multiple(quotient, twice));
-    is_rest(left, twice)
-}
-
-#[inline]
-fn doubled(number: i128) -> i128
-    requires { unsigned_abs number ≤ 2 ^ 79 }
-    ensures value { result ≡ number +ℤ number }
+fn multiple(share: Fix, length: u64) -> i128
+    requires { unsigned_abs share ≤ 65536 }
+    ensures value { result ≡ share *ℤ pos length }
     ensures small { unsigned_abs result ≤ 2 ^ 80 }
 {
-    number + number
+    share.wide() * length as i128
 }
 
 #[inline]
-fn multiple(quotient: i128, twice: i128) -> i128
-    requires quotient_small { unsigned_abs quotient ≤ 65536 }
-    requires twice_small { unsigned_abs twice ≤ 2 ^ 80 }
-    ensures value { result ≡ quotient *ℤ twice }
-    ensures small { unsigned_abs result ≤ 2 ^ 96 }
+fn difference(dividend: i128, multiple: i128) -> i128
+    requires dividend_small { unsigned_abs dividend ≤ 2 ^ 79 }
+    requires multiple_small { unsigned_abs multiple ≤ 2 ^ 80 }
+    ensures value { result ≡ dividend -ℤ multiple }
+    ensures small { unsigned_abs result ≤ 2 ^ 81 }
 {
-    quotient * twice
+    dividend - multiple
 }
 
 #[inline]
-fn difference(doubled: i128, divisor: i128, multiple: i128) -> i128
-    requires doubled_small { unsigned_abs doubled ≤ 2 ^ 80 }
-    requires divisor_small { unsigned_abs divisor ≤ 2 ^ 64 }
-    requires multiple_small { unsigned_abs multiple ≤ 2 ^ 96 }
-    ensures value { result ≡ doubled +ℤ divisor -ℤ multiple }
+fn is_rest(left: i128, length: i128) -> bool
+    requires left_small { unsigned_abs left ≤ 2 ^ 81 }
+    requires length_small { unsigned_abs length ≤ 2 ^ 64 }
+    ensures least { result ≡ true → neg_ℤ length ≤ℤ (left +ℤ left) }
+    ensures most { result ≡ true → (left +ℤ left) <ℤ length }
 {
-    doubled + divisor - multiple
-}
-
-#[inline]
-fn is_rest(left: i128, twice: i128) -> bool
-    ensures least { result ≡ true → pos 0 ≤ℤ left }
-    ensures most { result ≡ true → left <ℤ twice }
-{
-    0 <= left && left < twice
+    let twice = left + left;
+    -length <= twice && twice < length
 }

@@ -6,19 +6,19 @@ use Rattle.fix_math.proofs.directions.long_length.Goals as goal
 pub returns-clause-x_within : goal.returns-clause-x_within
 returns-clause-x_within c =
     let v = c.args.v.now in
-    within_length (unsigned_abs v.x) (unsigned_abs v.y * unsigned_abs v.y + unsigned_abs v.z * unsigned_abs v.z) c.isqrt.result (omega arith)
+    within_length (unsigned_abs v.x) (unsigned_abs v.y * unsigned_abs v.y + unsigned_abs v.z * unsigned_abs v.z) c.root_with_reciprocal.result.root (omega arith)
 
 pub returns-clause-y_within : goal.returns-clause-y_within
 returns-clause-y_within c =
     let v = c.args.v.now in
-    within_length (unsigned_abs v.y) (unsigned_abs v.x * unsigned_abs v.x + unsigned_abs v.z * unsigned_abs v.z) c.isqrt.result (omega arith)
+    within_length (unsigned_abs v.y) (unsigned_abs v.x * unsigned_abs v.x + unsigned_abs v.z * unsigned_abs v.z) c.root_with_reciprocal.result.root (omega arith)
 
 pub returns-clause-z_within : goal.returns-clause-z_within
 returns-clause-z_within c =
     let v = c.args.v.now in
-    within_length (unsigned_abs v.z) (unsigned_abs v.x * unsigned_abs v.x + unsigned_abs v.y * unsigned_abs v.y) c.isqrt.result (omega arith)
+    within_length (unsigned_abs v.z) (unsigned_abs v.x * unsigned_abs v.x + unsigned_abs v.y * unsigned_abs v.y) c.root_with_reciprocal.result.root (omega arith)
 
 pub returns-clause-short : goal.returns-clause-short
 returns-clause-short c =
     let v = c.args.v.now in
-    length_within (unsigned_abs v.x) (unsigned_abs v.y) (unsigned_abs v.z) c.isqrt.result (omega arith)
+    length_within (unsigned_abs v.x) (unsigned_abs v.y) (unsigned_abs v.z) c.root_with_reciprocal.result.root (omega arith)
