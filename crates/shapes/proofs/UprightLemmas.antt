@@ -1,5 +1,5 @@
 -- Solids whose axes are those of the world, as seen along those.
-use Rattle.std.proofs.Common.{ℕ, ℤ, pos, negsuc, ◌*◌, ◌/◌, ◌<◌, ◌≤◌, ◌+ℤ◌, ◌-ℤ◌, ◌*ℤ◌, ◌≤ℤ◌, ◌<ℤ◌, ◌≡◌, ◌↔◌, ◌∙◌, refl, arith, unsigned_abs, true, ◌&&◌, nat_lt, [], ◌∷◌, ◌++◌, ap}
+use Rattle.std.proofs.Common.{ℕ, ℤ, pos, negsuc, ◌*◌, ◌/◌, ◌<◌, ◌≤◌, ◌+ℤ◌, ◌-ℤ◌, ◌*ℤ◌, ◌≤ℤ◌, ◌<ℤ◌, ◌≡◌, ◌↔◌, ◌∙◌, refl, arith, unsigned_abs, int_le, Bool, true, ◌&&◌, nat_lt, [], ◌∷◌, ◌++◌, ap}
 use Rattle.std.proofs.Math.Nat.{le-div_iff_mul-le}
 use Rattle.std.proofs.lemmas.Int.{ints}
 use Rattle.fix_math.specs.declared.fix.V3.{V3}
@@ -7,17 +7,18 @@ use Rattle.fix_math.specs.Order.{mul-le_right, le_from_mul-le_right}
 use Rattle.fix_math.specs.Ring.{diff-parts, diff-same, ring_rules}
 use Rattle.shapes.specs.Bodies.{form_at, own_of}
 use Rattle.shapes.specs.Faces.{seen_from, in_ball, ends, all_hold}
-use Rattle.shapes.specs.Lines.{IsInStretches, is_in_stretches}
+use Rattle.shapes.specs.Lines.{IsInStretches, is_in_stretches, value_at, sight_at, square_distance_at}
 use Rattle.shapes.specs.Rays.{Position}
-use Rattle.shapes.specs.Spheres.{square, IsInSphere}
+use Rattle.shapes.specs.Spheres.{square, offset_from, IsInSphere}
 use Rattle.shapes.specs.Upright.{IsForm, IsUpright, IsPlainBall, IsBetween, IsInUpright, IsPlainBox}
 use Rattle.shapes.specs.declared.axes.Axes.{Axes}
 use Rattle.shapes.specs.declared.axes.Form.{Form}
 use Rattle.shapes.specs.declared.parts.Stretches.{Stretches}
+use Rattle.shapes.specs.declared.sight.Sight.{Sight}
 use Rattle.shapes.specs.declared.sphere.Sphere.{Sphere}
 use Rattle.shapes.specs.declared.upright.Upright.{Upright}
 use Rattle.shapes.proofs.Slabs.{near_from_squares}
-use Rattle.shapes.proofs.Told.{told, and_test, int_test, end_test, ends_test, ball_test, InBall, Between}
+use Rattle.shapes.proofs.Told.{told, same_test, and_test, int_test, end_test, ends_test, ball_test, InBall, Between}
 
 along_first : (f : Form) (k : ℤ) (u : V3) → IsForm f k (pos 0) (pos 0) → form_at f u ≡ u.x *ℤ k
 along_first f k u h = rw (h.x, h.y, h.z) (omega (arith, ints))
@@ -76,6 +77,22 @@ plain_ball_told s t end a axes length sphere p h f g =
       λ i. g.0 (f.0 i),
       λ k. f.1 (g.1 k),
     )
+
+-- a point at a sight's start, by the square of its distance
+pub in_sphere_test : (d : Sight) (centre : V3) (radius value limit long : ℤ) (p : Position) → value ≡ square_distance_at d.x d.y d.z 0
+    → sight_at d 0 ≡ seen_from centre p → limit ≡ square long → long ≡ pos 65536 *ℤ radius → (int_le value limit ≡ true) ↔ IsInSphere centre radius p
+in_sphere_test d centre radius value limit long p is seen most scaled =
+    let x : value_at d.x 0 ≡ offset_from centre.x p.x = ap (λ (v : V3). v.x) seen in
+    let y : value_at d.y 0 ≡ offset_from centre.y p.y = ap (λ (v : V3). v.y) seen in
+    let z : value_at d.z 0 ≡ offset_from centre.z p.z = ap (λ (v : V3). v.z) seen in
+    rw (is, x, y, z, most, scaled) (int_test _ _)
+
+-- whether a point is in a sphere
+pub plain_ball_has : (b : Bool) (axes : Axes) (length : ℤ) (sphere : Sphere) (p : Position) → IsPlainBall axes length sphere
+    → (b ≡ true) ↔ IsInSphere sphere.centre sphere.radius p → b ≡ in_ball length (own_of axes (seen_from axes.anchor p))
+plain_ball_has b axes length sphere p h f =
+    let i = ball_at axes length sphere p h in
+    same_test _ _ (λ e. i.1 (f.0 e)) (λ e. f.1 (i.0 e))
 
 same_scales : (axes : Axes) (a b c k m n : ℕ) → IsUpright axes a b c → a ≡ k → b ≡ m → c ≡ n → IsUpright axes k m n
 same_scales axes a b c k m n h e f g = rw (e, f, g) at h

@@ -66,7 +66,7 @@ impl Globe {
     ghost use Rattle.shapes.specs.Faces.{first_failing};
     ghost use Rattle.shapes.specs.Rays.{IsInWorld, position_of};
     ghost use Rattle.shapes.specs.Bodies.{globe_faces, own_of};
-    ghost use Rattle.shapes.specs.Faces.{in_ball};
+    ghost use Rattle.shapes.specs.Faces.{in_ball, seen_from};
     ghost use Rattle.shapes.specs.Lines.{IsInStretches, IsWithin, sight_at};
 
     /// The numbers of the path in the sphere.
@@ -131,17 +131,23 @@ impl Globe {
         self.shell(sight, span).has(0)
     }
 
+    /// Whether face 0 holds at a point.
+    fn has(&self, p: &Point) -> bool
+        requires { IsInWorld (position_of p.now) }
+        ensures { result ≡ in_ball self.now.radius.value (own_of self.now.axes (seen_from self.now.axes.anchor (position_of p.now))) }
+    {
+        match &self.plain {
+            Some(sphere) => sphere.has(p),
+            None => self.is_in_shell(&Sight::of_point(&self.axes.anchor, p)),
+        }
+    }
+
     /// The first face that doesn't hold at a point; none where the sphere holds there.
     pub fn failing_face(&self, p: &Point) -> Option<u8>
         requires { IsInWorld (position_of p.now) }
         ensures { result ≡ first_failing (globe_faces self.now (position_of p.now)) }
     {
-        let sight = Sight::of_point(&self.axes.anchor, p);
-        if self.is_in_shell(&sight) {
-            None
-        } else {
-            Some(0)
-        }
+        if self.has(p) { None } else { Some(0) }
     }
 
     /// The direction out of the sphere at a point of it.

@@ -1,12 +1,12 @@
 // Spheres.
-ghost use Rattle.std.specs.Prelude.{◌≡◌, ◌↔◌, ℕ, pos, ◌<◌, ◌≤◌, ◌^◌, ◌+ℤ◌, ◌*ℤ◌, ◌≤ℤ◌, IfSome, IsSome, unsigned_abs};
+ghost use Rattle.std.specs.Prelude.{◌≡◌, ◌↔◌, ℕ, pos, ◌<◌, ◌≤◌, ◌^◌, ◌+ℤ◌, ◌*ℤ◌, ◌≤ℤ◌, true, IfSome, IsSome, unsigned_abs};
 ghost use Rattle.shapes.specs.Spheres.{IsSphere};
 
 use crate::aim::{Side, approach, excess, guess, is_away};
 use crate::curve::Curve;
 use crate::near::valley_near;
 use crate::path::{Path, is_near};
-use crate::ray::Ray;
+use crate::ray::{Point, Ray};
 use crate::sight::Sight;
 use crate::span::{Line, Span};
 use fix_math::{Fix, V3};
@@ -167,6 +167,18 @@ impl Sphere {
             return Span { from: 0, end: 0 };
         }
         self.row_from_guess(path, approach, excess)
+    }
+
+    ghost use Rattle.shapes.specs.Rays.{IsInWorld, position_of};
+
+    /// Whether a point is in the sphere.
+    #[inline]
+    pub fn has(&self, p: &Point) -> bool
+        requires { IsInWorld (position_of p.now) }
+        ensures { (result ≡ true) ↔ IsInSphere self.now.centre self.now.radius (position_of p.now) }
+    {
+        let distance = Sight::of_point(&self.centre, p);
+        distance.at(0) <= Square::of(self.long_radius()).value
     }
 }
 
