@@ -1,2 +1,3 @@
+mod Directly
 mod Levels
 mod Needs

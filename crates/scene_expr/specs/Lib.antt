@@ -7,6 +7,7 @@ pub mod Memory
 pub mod Numbers
 pub mod OneValue
 pub mod Operators
+pub mod Short
 pub mod Steps
 pub mod Texts
 pub mod Then

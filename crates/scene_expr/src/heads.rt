@@ -1,5 +1,5 @@
 // What stands at a place among the tokens.
-ghost use Rattle.std.specs.Prelude.{◌≡◌, ◌≢◌, ◌≤◌, ◌<◌, ◌+◌, IfOk, IfErr, length};
+ghost use Rattle.std.specs.Prelude.{◌≡◌, ◌≢◌, ◌≤◌, ◌<◌, ◌+◌, IfOk, IfErr, IfSome, IsTrue, length};
 ghost use Rattle.scene_expr.specs.Heads.{place_at, sign_at, text_at, channel_at, component_at, sign_head, word_head, head_at, passed};
 
 use crate::operators::{Prefix, prefix_of};
@@ -77,6 +77,36 @@ pub fn sign_at(tokens: &[Token], at: usize) -> u8
             _ => 0,
         },
         None => 0,
+    }
+}
+
+/// Whether the sign here is a minus.
+#[inline]
+pub fn is_minus(tokens: &[Token], at: usize) -> bool
+    ensures head { IsTrue result → head_at tokens.now at ≡ Head.Opener (Opener.Mark (Mark.Sign Prefix.Minus)) }
+    ensures within { IsTrue result → at < length tokens.now }
+{
+    match tokens.get(at) {
+        Some(token) => match token.kind {
+            Kind::Sign(code) => code == sign::MINUS,
+            _ => false,
+        },
+        None => false,
+    }
+}
+
+/// The number here; none for any other token.
+#[inline]
+pub fn number_at(tokens: &[Token], at: usize) -> Option<Fix>
+    ensures head { IfSome result (λ number. head_at tokens.now at ≡ Head.Number number) }
+    ensures within { IfSome result (λ _. at < length tokens.now) }
+{
+    match tokens.get(at) {
+        Some(token) => match token.kind {
+            Kind::Number(number) => Some(number),
+            _ => None,
+        },
+        None => None,
     }
 }
 

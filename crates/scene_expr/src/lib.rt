@@ -9,6 +9,7 @@ mod law;
 mod numbers;
 mod operators;
 mod reader;
+mod short;
 mod texts;
 mod value;
 mod vectors;

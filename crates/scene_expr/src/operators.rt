@@ -1,5 +1,7 @@
 // The operators between values, and before them. (Reference manual, operators)
-ghost use Rattle.std.specs.Prelude.{◌≡◌, ◌≢◌, IfErr, ◌<◌, ◌+◌, ◌∷◌, [], map, neg_ℤ, if◌then◌else◌};
+ghost use Rattle.std.specs.Prelude.{ℕ, ◌≡◌, ◌≢◌, IfErr, IfSome, IfNone, Ok, Some, None, ◌<◌, ◌≤◌, ◌+◌, ◌∷◌, [], map, neg_ℤ, if◌then◌else◌};
+ghost use Rattle.scene_expr.specs.declared.value.Value.{Value};
+ghost use Rattle.scene_expr.specs.Short.{tiers_in};
 ghost use Rattle.scene_expr.specs.Grammar.{tier_operator, is_repeated};
 ghost use Rattle.scene_expr.specs.Values.{answer, float};
 ghost use Rattle.scene_expr.specs.Operators.{
@@ -29,7 +31,7 @@ ghost use Rattle.scene_expr.specs.Operators.{
   prefix,
 };
 
-use crate::value::{Trouble, Value};
+use crate::value::{Level, Trouble, Value};
 use fix_math::{Fix, NumFault, V3, add, div, mul, sub};
 use scene_lexer::sign;
 
@@ -326,13 +328,31 @@ fn is_true(a: Fix) -> bool
     a.raw() != 0
 }
 
+fn truth_number(holds: bool) -> Fix
+    ensures { Value.Float result ≡ truth holds }
+{
+    if holds { Fix(65536) } else { Fix(0) }
+}
+
 fn truth(holds: bool) -> Value
     ensures { result ≡ truth holds }
 {
-    if holds {
-        Value::Float(Fix(65536))
-    } else {
-        Value::Float(Fix(0))
+    Value::Float(truth_number(holds))
+}
+
+impl Operator {
+    /// What the operator makes of two numbers; none where it is at fault.
+    pub fn of_numbers(self, a: Fix, b: Fix) -> Option<Fix>
+        ensures { IfSome result (λ number. applied self (Value.Float a) (Value.Float b) ≡ Ok (Value.Float number)) }
+    {
+        match self {
+            Operator::Arithmetic(one) => match one.calculated(a, b) {
+                Ok(number) => Some(number),
+                Err(_fault) => None,
+            },
+            Operator::Comparison(one) => Some(truth_number(one.holds(a, b))),
+            Operator::Connective(one) => Some(truth_number(one.holds(is_true(a), is_true(b)))),
+        }
     }
 }
 
@@ -494,6 +514,46 @@ pub fn tier_operator(tier: usize, code: u8) -> Option<Operator>
         1 => sum_operator(code),
         2 => comparison_operator(code),
         _ => connective_operator(code),
+    }
+}
+
+/// An operator and its tier.
+#[derive(Clone, Copy)]
+pub struct Tiered {
+    pub tier: usize,
+    pub operator: Operator,
+}
+
+/// The comparison or connective that the sign is.
+#[inline(always)]
+fn loose(code: u8) -> Option<Tiered>
+    ensures found { IfSome result (λ found. (found.tier < 4) × (tier_operator found.tier code ≡ Some found.operator) × ((tier : ℕ) → tier < found.tier → 2 ≤ tier → tier_operator tier code ≡ None)) }
+    ensures none { IfNone result ((tier : ℕ) → tier < 4 → 2 ≤ tier → tier_operator tier code ≡ None) }
+{
+    if let Some(operator) = comparison_operator(code) {
+        return Some(Tiered { tier: 2, operator });
+    }
+    match connective_operator(code) {
+        Some(operator) => Some(Tiered { tier: 3, operator }),
+        None => None,
+    }
+}
+
+/// The operator of a level that the sign is.
+#[inline(always)]
+pub fn operator_in(level: Level, code: u8) -> Option<Tiered>
+    ensures found { IfSome result (λ found. (found.tier < tiers_in level) × (tier_operator found.tier code ≡ Some found.operator) × ((tier : ℕ) → tier < found.tier → tier_operator tier code ≡ None)) }
+    ensures none { IfNone result ((tier : ℕ) → tier < tiers_in level → tier_operator tier code ≡ None) }
+{
+    if let Some(operator) = term_operator(code) {
+        return Some(Tiered { tier: 0, operator });
+    }
+    if let Some(operator) = sum_operator(code) {
+        return Some(Tiered { tier: 1, operator });
+    }
+    match level {
+        Level::Choice => loose(code),
+        Level::Sum => None,
     }
 }
 

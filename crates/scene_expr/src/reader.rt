@@ -23,6 +23,7 @@ use crate::heads::{
     Head, Mark, Opener, channel_at, component_at, head_at, passed, place_at, sign_at, text_at,
 };
 use crate::operators::{Operator, applied, chosen, prefixed, tier_behind, tier_operator};
+use crate::short::short;
 use crate::texts::text;
 use crate::value::{ExprFault, Level, Settings, Trouble, Value};
 use crate::words::{Arity, Call, Constant};
@@ -687,6 +688,9 @@ fn part(
     ensures memory { IfErr result (λ f. f ≡ NoMemory → IsTrue (needs_memory (drop at tokens.now))) }
     ensures within { IfOk result (λ next. (at ≤ next) × (next ≤ length tokens.now)) }
 {
+    if let Some(next) = short(tokens, at, depths, part_level, value) {
+        return Ok(next);
+    }
     match part_level {
         Level::Choice => choice(alloc, tokens, set, at, depths, value),
         Level::Sum => level(alloc, tokens, set, at, depths, SUM, value),
