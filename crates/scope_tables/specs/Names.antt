@@ -62,6 +62,10 @@ is_reference_in scopes (suc count) name = is_reference_by (held scopes count nam
 abbrev pub is_reference : List Scope → ℕ → Bool
 is_reference scopes name = is_reference_in scopes (length scopes) name
 
+-- a declared name that the innermost scope doesn't hold: what a reference stands for, else the global one's
+abbrev pub outer_home : List Scope → ℕ → Home
+outer_home scopes name = if is_reference scopes name then home scopes name else at_home None name
+
 -- a declared name: what a reference stands for; else the innermost scope's where that holds it; else the global one's
 abbrev pub declared_home : List Scope → ℕ → Home
 declared_home scopes name =

@@ -1,7 +1,7 @@
 // Names on a stack of scopes.
 ghost use Rattle.std.specs.Prelude.{Some, true, ◌≡◌, ◌+◌, ◌-◌, [], ◌∷◌, ◌++◌, length, take, OnOk, OnErr, option_copied, is_some, nat_eq};
 ghost use Rattle.indexmap.specs.IndexMap.{insert_entry, swap_remove_entry};
-ghost use Rattle.scope_tables.specs.Names.{Scope, scope_at, held, innermost, found, home, is_reference, declared_home, bound_at, bound_home, declared, bound, removed, removed_home, entered, left};
+ghost use Rattle.scope_tables.specs.Names.{Scope, scope_at, held, innermost, found, home, is_reference, declared_home, outer_home, bound_at, bound_home, declared, bound, removed, removed_home, entered, left};
 
 use crate::binding::Binding;
 use indexmap::IndexMap;
@@ -77,6 +77,7 @@ impl Names {
     }
 
     /// What the scope of this number binds a name to.
+    #[inline(always)]
     fn held(&self, index: usize, name: usize) -> Option<&Binding>
         ensures { option_copied result ≡ held self.now index name }
     {
@@ -150,18 +151,27 @@ impl Names {
     }
 
     /// Where a declared name is bound.
+    #[tactic(auto, using(crate::proofs::Scopes::by_innermost))]
     fn declared_home(&self, name: usize) -> Home
         ensures { result ≡ declared_home self.now name }
     {
-        if self.is_reference(name) {
-            return self.home(name);
-        }
         let last = self.tables.len().saturating_sub(1);
-        if self.held(last, name).is_some() {
-            Home {
+        match self.held(last, name) {
+            Some(Binding::Reference(_)) => self.home(name),
+            Some(_) => Home {
                 scope: Some(last),
                 name,
-            }
+            },
+            None => self.outer_home(name),
+        }
+    }
+
+    /// Where a declared name is bound that the innermost scope doesn't hold.
+    fn outer_home(&self, name: usize) -> Home
+        ensures { result ≡ outer_home self.now name }
+    {
+        if self.is_reference(name) {
+            self.home(name)
         } else {
             Home { scope: None, name }
         }
