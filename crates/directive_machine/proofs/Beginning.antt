@@ -1,5 +1,6 @@
 -- The first text, from its reading to its end.
-use Rattle.std.proofs.Common.{ℕ, ◌≡◌, subst, sym, ap, ◌∙◌, refl, Bool, List, length, Option, Some, None, Result, Ok, Err}
+use Rattle.std.proofs.Common.{ℕ, ◌≡◌, subst, sym, ap, ◌∙◌, refl, Bool, List, [], length, Option, Some, None, Result, Ok, Err}
+use Rattle.scene_lexer.specs.declared.token.Token.{Token}
 use Rattle.scene_expr.specs.Then.{IsThen}
 use Rattle.directive_machine.specs.declared.flat.Source.{Source}
 use Rattle.directive_machine.specs.declared.stop.Stop.{Stop}
@@ -8,7 +9,7 @@ use Rattle.directive_machine.specs.State.{State}
 use Rattle.directive_machine.specs.Sources.{Sources, opened, unread, text_at, IsOpened}
 use Rattle.directive_machine.specs.Course.{Given, Course, Halted, After, course, halted, after, Beside}
 use Rattle.directive_machine.specs.Expands.{Expands}
-use Rattle.directive_machine.specs.Expansions.{first_state, no_sources, start, first_text, whole_part, IsExpanded, IsExpandedFrom, IsExpansionOf, IsExpansion}
+use Rattle.directive_machine.specs.Expansions.{first_state, no_sources, start, first_text, whole_part, IsExpanded, IsExpandedFrom, IsExpansionOf, IsExpansion, ComesTo, Handed, Reaches}
 
 -- the part that is run is the whole of the text
 whole : (g : Given) (number count : ℕ) (part : Part) (s : State) (sources : Sources) (r : Result After Halted) → part ≡ whole_part number count → length (text_at sources number).marks ≡ count → s ≡ first_state → Expands g part part.at (course s sources) r → Expands g (whole_part number (length (text_at sources number).marks)) 0 (course first_state sources) r
@@ -38,3 +39,15 @@ pub first_none : (g : Given) (name : List ℕ) (bytes : Option (List ℕ)) (f : 
 first_none g name bytes f s sources is fresh empty absent =
     subst (λ k. IsExpansionOf k g name (Err (halted f (course s sources)))) (sym is)
     (ap (λ k. Err (halted k (course s sources))) absent ∙ ap (λ k. Err (halted (Stop.Absent name start) (course k sources))) fresh ∙ ap (λ k. Err (halted (Stop.Absent name start) (course first_state k))) empty)
+
+-- ---- the course that is reached
+
+pub opens_flat : (g : Given) (file : Source) (s : State) (tokens : List Token) (files : List Source) (names : List (List ℕ)) → s ≡ first_state → ((g : Given) → Reaches (IsExpandedFrom g file) (record { tokens = tokens; files = files; messages = []; names = names })) → Reaches (IsExpandedFrom g file) (record { tokens = tokens; files = files; messages = s.messages; names = names })
+opens_flat g file s tokens files names fresh comes =
+    subst (λ (k : State). Reaches (IsExpandedFrom g file) (record { tokens = tokens; files = files; messages = k.messages; names = names })) (sym fresh) (comes g)
+
+pub first_reached : (g : Given) (name : List ℕ) (bytes : Option (List ℕ)) (file : Source) (found : Handed) → first_text g.held name bytes ≡ Some file → Reaches (IsExpandedFrom g file) found → Reaches (IsExpansion g name bytes) found
+first_reached g name bytes file found is (Reaches.reaches w same run) = Reaches.reaches w same (first_some g name bytes file (Ok w) is run)
+
+pub comes_to : (g : Given) (name : List ℕ) (bytes : Option (List ℕ)) (found : Handed) → Reaches (IsExpansion g name bytes) found → ComesTo g name bytes found
+comes_to g name bytes found (Reaches.reaches w same run) = ComesTo.comes w same run

@@ -21,3 +21,5 @@ mod SaidFirst
 mod Onward
 mod Starts
 mod Passages
+mod Tables
+mod PlainTexts

@@ -35,18 +35,15 @@ misplaced_in number bytes file s s' tokens f stop same names has wrong is =
 pub misplaced_some : (tokens : List Token) (f : Misplaced) (stop : Stop) → stop ≢ Stop.NoMemory → stop ≡ misplaced_stop tokens f → f ≢ Misplaced.NoMemory
 misplaced_some tokens f stop some is none = some (is ∙ ap (misplaced_stop tokens) none)
 
--- what a new text counts, where its name is listed
-counts : (file : Source) (place : Place) (size : ℕ) (name : List ℕ) (s s' : Sources) → name ≡ file.name → s' ≡ listed_name name s → size ≡ length file.name + 8 + length file.text → counted_bytes size place s' ≡ counted_bytes (length file.name + 8 + length file.text) place (listed_name file.name s)
-counts file place size name s s' named listed is = ap (λ k. counted_bytes k place s') is ∙ ap (λ k. counted_bytes (length file.name + 8 + length file.text) place k) (listed ∙ ap (λ m. listed_name m s) named)
+-- a new text is counted, and then read
+pub new_fault : (file : Source) (place : Place) (number : ℕ) (s : Sources) (f : Unread) → counted_bytes (length file.name + 8 + length file.text) place (listed_name file.name s) ≡ Err f → IsNew file place number s (Err f)
+new_fault file place number s f is = IsThen.fault f (sym is)
 
-pub new_fault : (file : Source) (place : Place) (number size : ℕ) (name : List ℕ) (s s' : Sources) (f : Unread) → name ≡ file.name → s' ≡ listed_name name s → size ≡ length file.name + 8 + length file.text → counted_bytes size place s' ≡ Err f → IsNew file place number s (Err f)
-new_fault file place number size name s s' f named listed long is = IsThen.fault f (sym is ∙ counts file place size name s s' named listed long)
+pub new_stops : (file : Source) (place : Place) (number : ℕ) (s s' : Sources) (f : Unread) → counted_bytes (length file.name + 8 + length file.text) place (listed_name file.name s) ≡ Ok s' → IsWritten number file s' (Err f) → IsNew file place number s (Err f)
+new_stops file place number s s' f is wrong = IsThen.found s' (Err f) (sym is) (IsThen.fault f wrong)
 
-pub new_stops : (file : Source) (place : Place) (number size : ℕ) (name : List ℕ) (s s' s'' : Sources) (f : Unread) → name ≡ file.name → s' ≡ listed_name name s → size ≡ length file.name + 8 + length file.text → counted_bytes size place s' ≡ Ok s'' → IsWritten number file s'' (Err f) → IsNew file place number s (Err f)
-new_stops file place number size name s s' s'' f named listed long is wrong = IsThen.found s'' (Err f) (sym is ∙ counts file place size name s s' named listed long) (IsThen.fault f wrong)
-
-pub new_ok : (file : Source) (place : Place) (number size : ℕ) (name : List ℕ) (s s' s'' s3 : Sources) → name ≡ file.name → s' ≡ listed_name name s → size ≡ length file.name + 8 + length file.text → counted_bytes size place s' ≡ Ok s'' → IsWritten number file s'' (Ok s3) → IsNew file place number s (Ok (opened number s3))
-new_ok file place number size name s s' s'' s3 named listed long is wrote = IsThen.found s'' _ (sym is ∙ counts file place size name s s' named listed long) (IsThen.found s3 _ wrote refl)
+pub new_ok : (file : Source) (place : Place) (number : ℕ) (s s' s'' : Sources) → counted_bytes (length file.name + 8 + length file.text) place (listed_name file.name s) ≡ Ok s' → IsWritten number file s' (Ok s'') → IsNew file place number s (Ok (opened number s''))
+new_ok file place number s s' s'' is wrote = IsThen.found s' _ (sym is) (IsThen.found s'' _ wrote refl)
 
 -- a text that was read before, or a new one
 by_known : (known : Bool) (P Q : Type 0) → known ≡ true → P → MatchBool known P Q

@@ -3,6 +3,7 @@ use Rattle.std.specs.Prelude.{ℕ, zero, suc, ◌+◌, nat_lt, nat_eq, Bool, tru
 use Rattle.scene_lexer.specs.declared.token.Token.{Token}
 use Rattle.scene_expr.specs.declared.value.Value.{Value}
 use Rattle.text_structure.specs.declared.mark.Mark.{Mark}
+use Rattle.text_structure.specs.declared.mark.Directive.{Directive}
 use Rattle.text_structure.specs.declared.closer.Closer.{Closer}
 use Rattle.text_structure.specs.Texts.{Text, end_of}
 use Rattle.text_structure.specs.Turns.{sign_at, is_block}
@@ -69,6 +70,9 @@ abbrev pub begun_side : Text → Part → Bool → ℕ → ℕ → State → Res
 begun_side t part local name at s =
     if is_block t.marks at then begun_block t part local name at s
     else (if nat_lt at part.end then begun_name t part local name at (block_at t at s.scopes) s else begun_list t part local name at s)
+
+abbrev pub directive_of : Bool → Directive
+directive_of local = if local then Directive.Local else Directive.Declare
 
 -- a `#declare` or `#local`: its name, its `=` and its right side
 abbrev pub begun_declare : Text → Part → Bool → ℕ → State → Result Begun Stopped

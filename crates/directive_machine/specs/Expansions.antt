@@ -65,3 +65,7 @@ pub data ComesTo (g : Given) (name : List ℕ) (bytes : Option (List ℕ)) (foun
 -- the scene's first fault is this one, with the messages and names up to it
 abbrev pub StopsAt : Given → List ℕ → Option (List ℕ) → Halted → Type 0
 StopsAt g name bytes f = IsExpansion g name bytes (Err f)
+
+-- a course is reached that hands this out
+pub data Reaches (holds : Result Course Halted → Type 0) (found : Handed) : Type 0 where
+  reaches : (w : Course) → handed w ≡ found → holds (Ok w) → Reaches holds found

@@ -21,6 +21,7 @@ pub mod Read
 pub mod Includes
 pub mod Ways
 pub mod Passages
+pub mod PlainTokens
 pub mod Expands
 pub mod Expansions
 pub mod Fronts

@@ -9,8 +9,9 @@ ghost use Rattle.directive_machine.specs.Carried.{state_of};
 ghost use Rattle.directive_machine.specs.declared.stop.Stop.TheVariants.{NoMemory};
 
 use crate::blocks::{begin_for, begin_if, begin_ifdef, begin_switch, begin_while};
+use crate::declaration::whole_declaration;
 use crate::declares::{
-    begin_declare, begin_include, begin_macro, begin_message, begin_undef, begin_version,
+    begin_declare, begin_include, begin_macro, begin_message, begin_undef, begin_version, open_list,
 };
 use crate::machine::{Machine, wrong};
 use crate::part::{Lead, Part};
@@ -206,9 +207,9 @@ fn begin_mark(
     }
 }
 
-/// What the token at a place of a part begins. A place beyond the text is never asked for.
+/// What the token at a place of a part begins, step by step.
 #[inline(always)]
-pub fn begin(
+fn begin_token(
     alloc: Global,
     source: &Written,
     machine: &mut Machine,
@@ -228,5 +229,30 @@ pub fn begin(
             begin_mark(alloc, source, machine, part, mark, at, inner)
         }
         None => Err(Stop::NoMemory),
+    }
+}
+
+/// What the token at a place of a part begins. A place beyond the text is never asked for.
+#[inline(always)]
+pub fn begin(
+    alloc: Global,
+    source: &Written,
+    machine: &mut Machine,
+    part: &Part,
+    at: usize,
+    inner: &mut Part,
+) -> Result<Lead, Stop>
+    ensures ok { IfOk result (λ action. begun_in source.now part.now at (state_of machine.old) ≡ Ok (begun (action_of action inner.new) (state_of machine.new))) }
+    ensures fault { IfErr result (λ f. f ≢ NoMemory → begun_in source.now part.now at (state_of machine.old) ≡ Err (stopped f (state_of machine.new))) }
+    ensures more { OnOk result (machine.old.taken < machine.new.taken) }
+    ensures within { OnOk result (machine.new.taken ≤ 16777216) }
+    ensures said { machine.new.messages.items ≡ machine.old.messages.items }
+{
+    match whole_declaration(source, machine, part, at) {
+        Some(found) => {
+            machine.taken += 4;
+            Ok(open_list(source, machine, part, found, at + 4, inner))
+        }
+        None => begin_token(alloc, source, machine, part, at, inner),
     }
 }

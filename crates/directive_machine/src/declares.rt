@@ -7,6 +7,7 @@ ghost use Rattle.directive_machine.specs.Carried.{state_of};
 ghost use Rattle.directive_machine.specs.declared.stop.Stop.TheVariants.{NoMemory};
 
 use crate::blocks::opened;
+use crate::declaration::Declaration;
 use crate::machine::{Machine, wrong};
 use crate::part::{Lead, Part, Span, Then};
 use crate::stop::Stop;
@@ -108,7 +109,8 @@ fn begin_block(
 }
 
 /// The block that the name at a place is bound to.
-fn block_at<'a>(source: &Written, machine: &'a Machine, at: usize) -> Option<&'a [Token]>
+#[inline(always)]
+pub fn block_at<'a>(source: &Written, machine: &'a Machine, at: usize) -> Option<&'a [Token]>
     ensures { option_map (λ block. block.now) result ≡ block_at source.now at machine.now.scopes }
 {
     match source.mark(at) {
@@ -181,29 +183,25 @@ pub fn bind_in(
 }
 
 /// Every other right side runs to its semicolon.
-fn begin_list(
+#[inline(always)]
+pub fn open_list(
     source: &Written,
-    machine: &mut Machine,
+    machine: &Machine,
     part: &Part,
-    local: bool,
-    name: usize,
+    declaration: Declaration,
     at: usize,
     inner: &mut Part,
-) -> Result<Lead, Stop>
-    requires place { at < 2 ^ 25 }
-    requires taken { machine.old.taken ≤ 16777216 }
-    ensures ok { IfOk result (λ action. begun_list source.now part.now local name at (state_of machine.old) ≡ Ok (begun (action_of action inner.new) (state_of machine.new))) }
-    ensures fault { IfErr result (λ f. begun_list source.now part.now local name at (state_of machine.old) ≡ Err (stopped f (state_of machine.new))) }
-    ensures more { OnOk result (machine.old.taken ≤ machine.new.taken) }
-    ensures within { OnOk result (machine.new.taken ≤ 16777216) }
-    ensures said { machine.new.messages.items ≡ machine.old.messages.items }
+) -> Lead
+    requires { at < 2 ^ 25 }
+    ensures { begun_list source.now part.now declaration.local declaration.name at (state_of machine.now) ≡ Ok (begun (action_of result inner.new) (state_of machine.now)) }
 {
+    let Declaration { name, local } = declaration;
     let end = source.end(Closer::Semicolon, at);
     let list = Span {
         at,
         end: end.min(part.end),
     };
-    Ok(opened(
+    opened(
         part,
         part.depth,
         list,
@@ -212,7 +210,7 @@ fn begin_list(
         Then::Bind { name, local },
         end + 1,
         inner,
-    ))
+    )
 }
 
 /// A right side that begins with no block's word.
@@ -239,7 +237,14 @@ fn begin_name(
             Ok(copy) => begin_copy(source, machine, part, local, name, at, copy, inner),
             Err(_) => Err(Stop::NoMemory),
         },
-        None => begin_list(source, machine, part, local, name, at, inner),
+        None => Ok(open_list(
+            source,
+            machine,
+            part,
+            Declaration { name, local },
+            at,
+            inner,
+        )),
     }
 }
 
@@ -266,7 +271,14 @@ fn begin_side(
     } else if at < part.end {
         begin_name(alloc, source, machine, part, local, name, at, inner)
     } else {
-        begin_list(source, machine, part, local, name, at, inner)
+        Ok(open_list(
+            source,
+            machine,
+            part,
+            Declaration { name, local },
+            at,
+            inner,
+        ))
     }
 }
 

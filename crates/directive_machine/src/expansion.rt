@@ -7,7 +7,7 @@ ghost use Rattle.directive_machine.specs.Carried.{state_of};
 ghost use Rattle.directive_machine.specs.Course.{Course, Halted, halted};
 ghost use Rattle.directive_machine.specs.Fronts.{IsFront, said_in};
 ghost use Rattle.directive_machine.specs.Read.{sources_of, course_of};
-ghost use Rattle.directive_machine.specs.Expansions.{first_state, no_sources, start, first_text, whole_part, IsExpanded, IsExpandedFrom, IsExpansion, ComesTo, StopsAt};
+ghost use Rattle.directive_machine.specs.Expansions.{first_state, no_sources, start, first_text, whole_part, IsExpanded, IsExpandedFrom, IsExpansion, ComesTo, StopsAt, Reaches, handed};
 ghost use Rattle.directive_machine.specs.Sources.{opened};
 ghost use Rattle.directive_machine.specs.declared.stop.Stop.TheVariants.{NoMemory, TextFault};
 
@@ -145,16 +145,24 @@ fn expand_text<T: Texts>(
     requires whole { AreWhole set.now }
     requires state { state_of machine.old ≡ first_state }
     requires sources { sources_of readings.old ≡ no_sources }
-    ensures ok { OnOk result ((h : List Text) → T.held texts.old ≡ Some h → IsExpandedFrom (record { settings = set.now; libraries = libraries.now; held = h }) file (Ok (course_of machine.new readings.new))) }
+    ensures ok { OnOk result ((h : List Text) → T.held texts.old ≡ Some h → Reaches (IsExpandedFrom (record { settings = set.now; libraries = libraries.now; held = h }) file) (handed (course_of machine.new readings.new))) }
     ensures fault { IfErr result (λ f. f ≢ NoMemory → f ≢ TextFault → (h : List Text) → T.held texts.old ≡ Some h → IsExpandedFrom (record { settings = set.now; libraries = libraries.now; held = h }) file (Err (halted f (course_of machine.new readings.new)))) }
     ensures said { IfErr result (λ f. (h : List Text) → T.held texts.old ≡ Some h → (r : Result Course Halted) → IsExpandedFrom (record { settings = set.now; libraries = libraries.now; held = h }) file r → IsFront machine.new.messages.items (said_in r)) }
     ensures cause { HasCause (T.faults texts.old) (T.faults texts.new) (IsErrOf result TextFault) }
     ensures held { T.held texts.new ≡ T.held texts.old }
 {
     one_end();
-    let number = readings.open(alloc, file, START)?;
-    expand_whole(alloc, number, libraries, set, texts, readings, machine)?;
-    Ok(())
+    let found = readings.open_first(alloc, file, START)?;
+    match found {
+        Some(tokens) => {
+            machine.out = tokens;
+            Ok(())
+        }
+        None => {
+            expand_whole(alloc, 0, libraries, set, texts, readings, machine)?;
+            Ok(())
+        }
+    }
 }
 
 /// Looks for the first text, and expands it.
@@ -171,7 +179,7 @@ fn expand_first<T: Texts>(
     requires whole { AreWhole set.now }
     requires state { state_of machine.old ≡ first_state }
     requires sources { sources_of readings.old ≡ no_sources }
-    ensures ok { OnOk result ((h : List Text) → T.held texts.old ≡ Some h → IsExpansion (record { settings = set.now; libraries = libraries.now; held = h }) first.now (option_copied given.entry) (Ok (course_of machine.new readings.new))) }
+    ensures ok { OnOk result ((h : List Text) → T.held texts.old ≡ Some h → Reaches (IsExpansion (record { settings = set.now; libraries = libraries.now; held = h }) first.now (option_copied given.entry)) (handed (course_of machine.new readings.new))) }
     ensures fault { IfErr result (λ f. f ≢ NoMemory → f ≢ TextFault → (h : List Text) → T.held texts.old ≡ Some h → IsExpansion (record { settings = set.now; libraries = libraries.now; held = h }) first.now (option_copied given.entry) (Err (halted f (course_of machine.new readings.new)))) }
     ensures said { IfErr result (λ f. (h : List Text) → T.held texts.old ≡ Some h → (r : Result Course Halted) → IsExpansion (record { settings = set.now; libraries = libraries.now; held = h }) first.now (option_copied given.entry) r → IsFront machine.new.messages.items (said_in r)) }
     ensures cause { HasCause (T.faults texts.old) (T.faults texts.new) (IsErrOf result TextFault) }

@@ -4,6 +4,7 @@
 mod arguments;
 mod begin;
 mod blocks;
+mod declaration;
 mod declared_blocks;
 mod declares;
 mod expansion;
@@ -17,6 +18,7 @@ mod made;
 mod mem_texts;
 mod part;
 mod passage;
+mod plain;
 mod readings;
 mod settle;
 mod stop;

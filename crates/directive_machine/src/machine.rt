@@ -1,5 +1,5 @@
 // What an expansion carries along, and its smallest steps.
-ghost use Rattle.std.specs.Prelude.{◌≡◌, ◌≢◌, ◌<◌, ◌≤◌, ◌+◌, ◌^◌, ℕ, List, [], ◌∷◌, ◌++◌, length, drop, Ok, Err, IfOk, IfErr, OnOk, OnErr, nat_lt, slice_get};
+ghost use Rattle.std.specs.Prelude.{true, ◌≡◌, ◌≢◌, ◌<◌, ◌≤◌, ◌+◌, ◌^◌, ℕ, List, [], ◌∷◌, ◌++◌, length, drop, Ok, Err, IfOk, IfErr, OnOk, OnErr, nat_lt, slice_get, IsTrue};
 ghost use Rattle.directive_machine.specs.State.{most_taken, counted, deeper, matched, passed, asked, asked_by, named, named_by, handed, is_aside, is_evaluated, stopped, restored, is_free, given_out};
 ghost use Rattle.scene_expr.specs.Heads.{place_at};
 ghost use Rattle.directive_machine.specs.Carried.{state_of};
@@ -17,7 +17,7 @@ use text_structure::{Mark, Written, sign_at};
 const MOST_TAKEN: u32 = 16_777_216;
 
 /// The flat list has at most so many tokens.
-const MOST_HANDED: usize = 4_194_304;
+pub const MOST_HANDED: usize = 4_194_304;
 
 /// Directives, calls and included texts stand in one another at most so deep.
 const MOST_DEPTHS: u32 = 64;
@@ -203,6 +203,18 @@ impl Machine {
         ensures { result ≡ nat_lt self.now.taken most_taken }
     {
         self.taken < MOST_TAKEN
+    }
+
+    /// Whether four more tokens may be taken.
+    #[inline(always)]
+    pub fn may_take_four(&self) -> bool
+        ensures first { IsTrue result → nat_lt self.now.taken most_taken ≡ true }
+        ensures second { IsTrue result → nat_lt (self.now.taken + 1) most_taken ≡ true }
+        ensures third { IsTrue result → nat_lt (self.now.taken + 1 + 1) most_taken ≡ true }
+        ensures fourth { IsTrue result → nat_lt (self.now.taken + 1 + 1 + 1) most_taken ≡ true }
+        ensures room { IsTrue result → self.now.taken + 4 ≤ 16777216 }
+    {
+        self.taken < MOST_TAKEN - 3
     }
 
     /// Whether a part may hand out one more token.

@@ -1,16 +1,18 @@
 // The texts that an expansion reads, and their numbers.
-ghost use Rattle.std.specs.Prelude.{◌≡◌, ◌≢◌, ◌<◌, ◌≤◌, ◌+◌, ◌^◌, ◌++◌, ◌∷◌, [], ℕ, List, length, Ok, Err, IfOk, IfErr, OnOk, IfSome};
+ghost use Rattle.std.specs.Prelude.{◌≡◌, ◌≢◌, ◌<◌, ◌≤◌, ◌+◌, ◌^◌, ◌++◌, ◌∷◌, [], ℕ, List, length, Ok, Err, None, IfOk, IfErr, OnOk, IfSome};
 ghost use Rattle.std.specs.List.{position_or_len};
 ghost use Rattle.std.specs.Str.{bytes_eq};
 ghost use Rattle.scene_lexer.specs.Tokens.{tokens_of};
 ghost use Rattle.directive_machine.specs.Sources.{text_at, opened, unread, counted_bytes, listed_name, misplaced_stop, number_of_name, again, IsMisspelt, IsWritten, IsNew, IsOpened};
 ghost use Rattle.scene_lexer.specs.declared.token.Token.{Token};
-ghost use Rattle.directive_machine.specs.Expansions.{no_sources};
+ghost use Rattle.directive_machine.specs.Course.{Given};
+ghost use Rattle.directive_machine.specs.Expansions.{no_sources, start, IsExpandedFrom, Reaches};
 ghost use Rattle.directive_machine.specs.Read.{sources_of};
 ghost use Rattle.directive_machine.specs.declared.stop.Stop.TheVariants.{NoMemory, TextFault};
 
 use crate::flat::Source;
 use crate::machine::of_step;
+use crate::plain::is_flat;
 use crate::stop::Stop;
 use fix_math::Str;
 use scene_expr::place_at;
@@ -213,13 +215,30 @@ impl Readings {
         Ok(())
     }
 
-    /// The text as its directives see it.
-    fn write(&mut self, alloc: Global, number: usize, file: Source) -> Result<(), Stop>
-        requires { length file.text ≤ 2 ^ 24 }
+    /// Keeps a text without marks.
+    fn keep_flat(&mut self, file: Source) -> Result<(), Stop>
+        ensures ok { OnOk result (sources_of self.new ≡ record (sources_of self.old) { files = self.old.files.items ++ file ∷ [] }) }
+        ensures fault { IfErr result (λ f. f ≡ NoMemory) }
+    {
+        if self.files.push(file).is_err() {
+            return Err(Stop::NoMemory);
+        }
+        Ok(())
+    }
+
+    /// Keeps a text of these tokens as its directives see it.
+    fn keep_marked(
+        &mut self,
+        alloc: Global,
+        number: usize,
+        file: Source,
+        tokens: Vec<Token>,
+    ) -> Result<(), Stop>
+        requires small { length file.text ≤ 2 ^ 24 }
+        requires tokens { tokens_of number file.text ≡ Ok tokens.items }
         ensures ok { OnOk result (IsWritten number file (sources_of self.old) (Ok (sources_of self.new))) }
         ensures fault { IfErr result (λ f. f ≢ NoMemory → IsWritten number file (sources_of self.old) (Err (unread f (sources_of self.new)))) }
     {
-        let tokens = tokens(alloc, number, file.text.bytes())?;
         match Written::new(alloc, &mut self.words, tokens) {
             Ok(written) => {
                 self.keep(file, written)?;
@@ -227,6 +246,29 @@ impl Readings {
             }
             Err(fault) => Err(misplaced(alloc, number, file.text.bytes(), fault)),
         }
+    }
+
+    /// Reads the tokens of a text, and keeps it as its directives see it.
+    fn write(&mut self, alloc: Global, number: usize, file: Source) -> Result<(), Stop>
+        requires { length file.text ≤ 2 ^ 24 }
+        ensures ok { OnOk result (IsWritten number file (sources_of self.old) (Ok (sources_of self.new))) }
+        ensures fault { IfErr result (λ f. f ≢ NoMemory → IsWritten number file (sources_of self.old) (Err (unread f (sources_of self.new)))) }
+    {
+        let tokens = tokens(alloc, number, file.text.bytes())?;
+        self.keep_marked(alloc, number, file, tokens)?;
+        Ok(())
+    }
+
+    /// Lists and counts a text that was not read before.
+    fn enter(&mut self, alloc: Global, file: &Source, place: Place) -> Result<(), Stop>
+        ensures ok { OnOk result (counted_bytes (length file.now.name + 8 + length file.now.text) place (listed_name file.now.name (sources_of self.old)) ≡ Ok (sources_of self.new)) }
+        ensures fault { IfErr result (λ f. f ≢ NoMemory → counted_bytes (length file.now.name + 8 + length file.now.text) place (listed_name file.now.name (sources_of self.old)) ≡ Err (unread f (sources_of self.new))) }
+        ensures small { OnOk result (length file.now.text ≤ 2 ^ 24) }
+    {
+        let size = size_of(file)?;
+        self.list(alloc, file.name.bytes())?;
+        self.count(size, place)?;
+        Ok(())
     }
 
     /// Takes in a text that was not read before.
@@ -240,11 +282,54 @@ impl Readings {
         ensures ok { IfOk result (λ found. IsNew file place number (sources_of self.old) (Ok (opened found (sources_of self.new)))) }
         ensures fault { IfErr result (λ f. f ≢ NoMemory → IsNew file place number (sources_of self.old) (Err (unread f (sources_of self.new)))) }
     {
-        let size = size_of(&file)?;
-        self.list(alloc, file.name.bytes())?;
-        self.count(size, place)?;
+        self.enter(alloc, &file, place)?;
         self.write(alloc, number, file)?;
         Ok(number)
+    }
+
+    /// Takes in the first text. One whose tokens begin nothing isn't kept as directives see it: its tokens are
+    /// handed back.
+    fn begin_first(
+        &mut self,
+        alloc: Global,
+        file: Source,
+        place: Place,
+    ) -> Result<Option<Vec<Token>>, Stop>
+        requires none { sources_of self.old ≡ no_sources }
+        requires place { place ≡ start }
+        ensures flat { IfOk result (λ found. IfSome found (λ tokens. (g : Given) → Reaches (IsExpandedFrom g file) (record { tokens = tokens.items; files = self.new.files.items; messages = []; names = self.new.names.items }))) }
+        ensures kept { IfOk result (λ found. found ≡ None → IsNew file place 0 (sources_of self.old) (Ok (opened 0 (sources_of self.new)))) }
+        ensures fault { IfErr result (λ f. f ≢ NoMemory → IsNew file place 0 (sources_of self.old) (Err (unread f (sources_of self.new)))) }
+    {
+        self.enter(alloc, &file, place)?;
+        let tokens = tokens(alloc, 0, file.text.bytes())?;
+        if is_flat(&tokens) {
+            self.keep_flat(file)?;
+            return Ok(Some(tokens));
+        }
+        self.keep_marked(alloc, 0, file, tokens)?;
+        Ok(None)
+    }
+
+    /// Takes in the first text of all, and tells the tokens of one that comes to just these. Each other one has the
+    /// number 0.
+    pub fn open_first(
+        &mut self,
+        alloc: Global,
+        file: Source,
+        place: Place,
+    ) -> Result<Option<Vec<Token>>, Stop>
+        requires none { sources_of self.old ≡ no_sources }
+        requires place { place ≡ start }
+        ensures flat { IfOk result (λ found. IfSome found (λ tokens. (g : Given) → Reaches (IsExpandedFrom g file) (record { tokens = tokens.items; files = self.new.files.items; messages = []; names = self.new.names.items }))) }
+        ensures kept { IfOk result (λ found. found ≡ None → IsOpened file place (sources_of self.old) (Ok (opened 0 (sources_of self.new)))) }
+        ensures fault { IfErr result (λ f. f ≢ NoMemory → IsOpened file place (sources_of self.old) (Err (unread f (sources_of self.new)))) }
+        ensures outside { IfErr result (λ f. f ≢ TextFault) }
+    {
+        match self.begin_first(alloc, file, place) {
+            Ok(found) => Ok(found),
+            Err(stop) => Err(of_step(stop)),
+        }
     }
 
     /// Takes in a text that was read before: its bytes count again.
