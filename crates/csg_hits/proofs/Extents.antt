@@ -1,10 +1,13 @@
 -- The boxes of leaves that are kept, and those of the objects made of them.
 use Rattle.std.proofs.Common.{ℕ, zero, suc, ◌-◌, ◌<◌, ◌≤◌, ◌≡◌, Bool, true, false, ◌⊎◌, inl, inr, Option, Some, None, List, [], ◌∷◌, length, get_or, map, slice_get, refl, ap, sym, subst, ◌∙◌, ⊎_elim}
+use Rattle.std.specs.List.{All}
 use Rattle.std.specs.Option.{option_map}
 use Rattle.std.proofs.lemmas.Bool.{and_parts, false≢true}
+use Rattle.std.proofs.lemmas.List.Elements.{All-get_or}
 use Rattle.std.proofs.lemmas.Option.{slice_get_past, slice_get_read, slice_get-map}
 use Rattle.scene_model.specs.declared.scene.Object.{Object}
 use Rattle.scene_model.specs.declared.shape.Leaf.{Leaf}
+use Rattle.scene_model.specs.declared.shape.Shape.{Shape}
 use Rattle.shapes.specs.declared.ray.Ray.{Ray}
 use Rattle.shapes.specs.Rays.{Position, IsInWorld, point_at}
 use Rattle.leaf_boxes.specs.declared.bounds.Box3.{Box3}
@@ -14,11 +17,12 @@ use Rattle.leaf_boxes.specs.Holding.{leaf_holds, shape_holds}
 use Rattle.csg_hits.specs.declared.piece.Piece.{Piece}
 use Rattle.csg_hits.specs.declared.ready.ReadyLeaf.{ReadyLeaf}
 use Rattle.csg_hits.specs.declared.ready.ReadyObject.{ReadyObject}
-use Rattle.csg_hits.specs.Bounds.{IsBounded, HoldsInside, bounds_of, box_of_object, holds_of, leaf_at}
+use Rattle.csg_hits.specs.Bounds.{IsBounded, HoldsInside, HoldsStruck, bounds_of, box_of_object, box_of_piece, holds_of, leaf_at, piece_bounds_of}
+use Rattle.csg_hits.specs.Kept.{IsBoxed}
 use Rattle.csg_hits.specs.Ready.{leaves_of, objects_of}
 use Rattle.csg_hits.specs.Pieces.{piece_struck, strikes_of}
 use Rattle.csg_hits.specs.Sides.{differ, sides}
-use Rattle.csg_hits.specs.Surfaces.{counts, crossing_of, is_gate, leaf_on}
+use Rattle.csg_hits.specs.Surfaces.{counts, crossing_of, is_gate, leaf_on, object_strikes, struck_of}
 use Rattle.csg_hits.proofs.Bounded.{AreBoxed, around}
 use Rattle.csg_hits.proofs.Numbered.{plain}
 
@@ -84,30 +88,74 @@ no_object_at objects n past =
     let v : ReadyObject → Object = λ o. o.object.value in
     slice_get-map v objects n ∙ ap (λ (o : Option ReadyObject). option_map v o) (slice_get_past objects n past)
 
+-- an object with its box
+pub object_boxed : (leaves : List ReadyLeaf) (object : Object) (kept : ReadyObject) → kept.object.value ≡ object → kept.bounds ≡ shape_box_of (extents leaves) object.shape
+    → ((leaf : ℕ → Bool) (p : Position) → IsInWorld p → AreHeld leaf (extents leaves) p → shape_holds leaf object.shape ≡ true → IsInBox kept.bounds p) → IsBoxed (leaves_of leaves) kept
+object_boxed leaves object kept is value inside = record {
+  value =
+      value ∙ ap (λ (bs : List Box3). shape_box_of bs object.shape) (same_boxes leaves)
+      ∙ ap (λ (o : Object). box_of_object (leaves_of leaves) (Some o)) (sym is);
+  inside = λ p within has.
+      let leaf : ℕ → Bool = leaf_at (leaves_of leaves) p in
+      inside leaf p within (held leaves p within) (ap (λ (o : Object). shape_holds leaf o.shape) (sym is) ∙ has);
+}
+
 -- the box is the one that its definition says
-pub value_there : (leaves : List ReadyLeaf) (objects : List ReadyObject) (n : ℕ) (x : ReadyObject) (found : Box3) → n < length objects → x ≡ get_or objects n x → found ≡ shape_box_of (extents leaves) x.shape
-    → found ≡ bounds_of (plain (leaves_of leaves) objects) n
-value_there leaves objects n x found lt e h =
-    h ∙ ap (λ (bs : List Box3). shape_box_of bs x.shape) (same_boxes leaves) ∙ x.alike.boxed (map box_of (leaves_of leaves))
-    ∙ ap (λ (o : Option Object). box_of_object (leaves_of leaves) o) (sym (object_at objects n x lt e))
+pub value_there : (leaves : List Leaf) (objects : List ReadyObject) (n : ℕ) (x : ReadyObject) → n < length objects → x ≡ get_or objects n x → IsBoxed leaves x → x.bounds ≡ bounds_of (plain leaves objects) n
+value_there leaves objects n x lt e h = h.value ∙ ap (λ (o : Option Object). box_of_object leaves o) (sym (object_at objects n x lt e))
 
 pub value_nowhere : (leaves : List Leaf) (objects : List ReadyObject) (n : ℕ) (found : Box3) → length objects ≤ n → found ≡ box_of_object leaves None → found ≡ bounds_of (plain leaves objects) n
 value_nowhere leaves objects n found past h = h ∙ ap (λ (o : Option Object). box_of_object leaves o) (sym (no_object_at objects n past))
 
 -- it holds each point of the world at which the object does
-pub inside_there : (leaves : List ReadyLeaf) (objects : List ReadyObject) (n : ℕ) (x : ReadyObject) (found : Box3) → n < length objects → x ≡ get_or objects n x
-    → ((leaf : ℕ → Bool) (p : Position) → IsInWorld p → AreHeld leaf (extents leaves) p → shape_holds leaf x.shape ≡ true → IsInBox found p) → HoldsInside (plain (leaves_of leaves) objects) n found
-inside_there leaves objects n x found lt e h = λ p within has.
-    let leaf : ℕ → Bool = leaf_at (leaves_of leaves) p in
-    let P : Option Object → Type 0 = λ o. holds_of (leaves_of leaves) o p ≡ true in
-    let k : shape_holds leaf x.object.value.shape ≡ true = subst P (object_at objects n x lt e) has in
-    h leaf p within (held leaves p within) (x.alike.held leaf ∙ k)
+pub inside_there : (leaves : List Leaf) (objects : List ReadyObject) (n : ℕ) (x : ReadyObject) → n < length objects → x ≡ get_or objects n x → IsBoxed leaves x → HoldsInside (plain leaves objects) n x.bounds
+inside_there leaves objects n x lt e h = λ p within has.
+    let P : Option Object → Type 0 = λ o. holds_of leaves o p ≡ true in
+    h.inside p within (subst P (object_at objects n x lt e) has)
 
 pub inside_nowhere : (leaves : List Leaf) (objects : List ReadyObject) (n : ℕ) (found : Box3) → length objects ≤ n → HoldsInside (plain leaves objects) n found
 inside_nowhere leaves objects n found past = λ p within has.
     let P : Option Object → Type 0 = λ o. holds_of leaves o p ≡ true in absurd (false≢true (subst P (no_object_at objects n past) has))
 
+-- the box of a shape holds one of the two points between which the shape is struck
+struck_between : (leaves : List ReadyLeaf) (ray : Ray) (shape : Shape) (found : Box3) (t m : ℕ) → found ≡ shape_box_of (extents leaves) shape → IsInWorld (point_at ray (t - 1)) → IsInWorld (point_at ray t)
+    → (sides (leaf_on (leaves_of leaves) ray t) shape).strikes m ≡ true → IsInBox found (point_at ray (t - 1)) ⊎ IsInBox found (point_at ray t)
+struck_between leaves ray shape found t m is here there h =
+    let P : Box3 → Type 0 = λ b. IsInBox b (point_at ray (t - 1)) ⊎ IsInBox b (point_at ray t) in
+    subst P (sym is) ((around (extents leaves) (leaf_on (leaves_of leaves) ray t) (point_at ray (t - 1)) (point_at ray t) (boxed leaves ray t here there) shape).struck m h)
+
+-- and so it does of an object
+pub struck_there : (leaves : List ReadyLeaf) (objects : List ReadyObject) (n : ℕ) (x : ReadyObject) → n < length objects → x ≡ get_or objects n x → IsBoxed (leaves_of leaves) x
+    → HoldsStruck (plain (leaves_of leaves) objects) n x.bounds
+struck_there leaves objects n x lt e boxed = λ ray shadow t m positive here there h.
+    let s = plain (leaves_of leaves) objects in
+    let o : Object = x.object.value in
+    let O : Option Object → Type 0 = λ c. struck_of s ray shadow t (n - length s.objects) m c ≡ true in
+    let k : object_strikes s.leaves ray shadow o t m ≡ true = subst O (object_at objects n x lt e) h in
+    struck_between leaves ray o.shape x.bounds t m (boxed.value ∙ ap (λ (bs : List Box3). shape_box_of bs o.shape) (sym (same_boxes leaves))) here there
+    (and_parts (counts shadow o.no_shadow) ((sides (leaf_on (leaves_of leaves) ray t) o.shape).strikes m) k).1
+
+pub struck_nowhere : (leaves : List Leaf) (objects : List ReadyObject) (n : ℕ) (found : Box3) → length objects ≤ n → HoldsStruck (plain leaves objects) n found
+struck_nowhere leaves objects n found past = λ ray shadow t m positive here there h.
+    let s = plain leaves objects in
+    let O : Option Object → Type 0 = λ c. struck_of s ray shadow t (n - length s.objects) m c ≡ true in
+    absurd (false≢true (subst O (no_object_at objects n past) h))
+
+-- the objects of a scene that are kept, with their boxes
+pub boxed_at : (leaves : List Leaf) (objects : List ReadyObject) (n : ℕ) (x : ReadyObject) → All (IsBoxed leaves) objects → n < length objects → x ≡ get_or objects n x → IsBoxed leaves x
+boxed_at leaves objects n x all lt e = subst (IsBoxed leaves) (sym e) (All-get_or (IsBoxed leaves) objects n x lt all)
+
 -- ---- pieces
+
+-- the box of a piece is the one that its definition says
+pub piece_value : (leaves : List ReadyLeaf) (pieces : List Piece) (n : ℕ) (x : Piece) (found : Box3) → n < length pieces → x ≡ get_or pieces n x → found ≡ shape_box_of (extents leaves) x.shape
+    → found ≡ piece_bounds_of (record { leaves = leaves_of leaves; pieces = pieces }) n
+piece_value leaves pieces n x found lt e is =
+    is ∙ ap (λ (bs : List Box3). shape_box_of bs x.shape) (same_boxes leaves)
+    ∙ ap (λ (o : Option Piece). box_of_piece (leaves_of leaves) o) (sym (slice_get_read pieces (length pieces) n x refl lt e))
+
+pub none_value : (leaves : List Leaf) (pieces : List Piece) (n : ℕ) (found : Box3) → length pieces ≤ n → found ≡ box_of_piece leaves None → found ≡ piece_bounds_of (record { leaves = leaves; pieces = pieces }) n
+none_value leaves pieces n found past h = h ∙ ap (λ (o : Option Piece). box_of_piece leaves o) (sym (slice_get_past pieces n past))
 
 -- the box of a piece's shape has one of the two points between which the piece is struck
 pub piece_bounded : (leaves : List ReadyLeaf) (pieces : List Piece) (n : ℕ) (x : Piece) (found : Box3) → n < length pieces → x ≡ get_or pieces n x → found ≡ shape_box_of (extents leaves) x.shape
@@ -117,9 +165,7 @@ piece_bounded leaves pieces n x found lt e is = λ ray shadow t m positive here 
     let at : slice_get pieces n ≡ Some x = slice_get_read pieces (length pieces) n x refl lt e in
     let O : Option Piece → Type 0 = λ o. piece_struck f shadow m o ≡ true in
     let k : strikes_of f shadow x m ≡ true = subst O at h in
-    let P : Box3 → Type 0 = λ b. IsInBox b (point_at ray (t - 1)) ⊎ IsInBox b (point_at ray t) in
-    subst P (sym is)
-    ((around (extents leaves) f (point_at ray (t - 1)) (point_at ray t) (boxed leaves ray t here there) x.shape).struck m (and_parts (counts shadow x.no_shadow) ((sides f x.shape).strikes m) k).1)
+    struck_between leaves ray x.shape found t m is here there (and_parts (counts shadow x.no_shadow) ((sides f x.shape).strikes m) k).1
 
 pub none_bounded : (leaves : List Leaf) (pieces : List Piece) (n : ℕ) (found : Box3) → length pieces ≤ n → IsBounded (record { leaves = leaves; pieces = pieces }) n found
 none_bounded leaves pieces n found past = λ ray shadow t m positive here there h.

@@ -1,6 +1,5 @@
 -- What a group is, part by part.
 use Rattle.std.proofs.Common.{ℕ, ◌+◌, ◌<◌, ◌≤◌, ◌≡◌, Bool, true, false, not, ◌&&◌, ◌||◌, List, [], ◌∷◌, ◌++◌, length, get_or, take, drop, map, Vec, Global, refl, ap, sym, ◌∙◌, arith}
-use Rattle.std.specs.Prelude.{if◌then◌else◌}
 use Rattle.std.specs.List.{list_any, list_all}
 use Rattle.std.proofs.Math.Path.{fun_ext}
 use Rattle.std.proofs.lemmas.List.{take_more, map-append, length-map, length-take, take_all, append-nil, append_assoc, take-append-drop}
@@ -11,10 +10,6 @@ use Rattle.scene_model.specs.declared.shape.Shape.TheOpen.{Shape-F}
 use Rattle.scene_model.specs.declared.shape.Shape.TheViews.{Group}
 use Rattle.scene_model.specs.declared.shape.Shape.TheFolds.{fold-roll-Shape}
 use Rattle.scene_model.specs.declared.shape.Shape.TheVariants.{rolls-Group}
-use Rattle.leaf_boxes.specs.declared.bounds.Box3.{Box3}
-use Rattle.leaf_boxes.specs.Boxes.{world}
-use Rattle.leaf_boxes.specs.Groups.{box_step, group_box, shape_box_of}
-use Rattle.leaf_boxes.specs.Holding.{holds_step, shape_holds}
 use Rattle.csg_hits.specs.Outlooks.{joined, Settles}
 use Rattle.csg_hits.specs.Sides.{Crossing, Sides, differ, keeps, with_others, group_holds, together, as_group, sides, sides_step}
 
@@ -111,13 +106,6 @@ one_part f op (p ∷ ps) s x lt e = together_one op (sides (f s) p) ∙ ap (λ (
 
 pub group_is : (leaf : ℕ → Crossing) (op : Op) (parts : Vec Shape Global) (inverse : Bool) → sides leaf (Group op parts inverse) ≡ as_group op inverse (together op (map (sides leaf) parts.items))
 group_is leaf op parts inverse = ap (sides leaf) (sym (rolls-Group op parts inverse)) ∙ fold-roll-Shape Sides (sides_step leaf) (Shape-F.Group op parts inverse)
-
--- where a group holds, and its box, by those of its parts
-pub group_held : (leaf : ℕ → Bool) (op : Op) (parts : Vec Shape Global) (inverse : Bool) → shape_holds leaf (Group op parts inverse) ≡ differ (group_holds op (map (shape_holds leaf) parts.items)) inverse
-group_held leaf op parts inverse = ap (shape_holds leaf) (sym (rolls-Group op parts inverse)) ∙ fold-roll-Shape Bool (holds_step leaf) (Shape-F.Group op parts inverse)
-
-pub group_boxed : (boxes : List Box3) (op : Op) (parts : Vec Shape Global) (inverse : Bool) → shape_box_of boxes (Group op parts inverse) ≡ (if inverse then world else group_box op (map (shape_box_of boxes) parts.items))
-group_boxed boxes op parts inverse = ap (shape_box_of boxes) (sym (rolls-Group op parts inverse)) ∙ fold-roll-Shape Box3 (box_step boxes) (Shape-F.Group op parts inverse)
 
 -- a group is all its parts
 pub all_parts : (f : Leaves) (shape : Shape) (op : Op) (vec : Vec Shape Global) (parts : List Shape) (inverse : Bool) (i s : ℕ) → shape ≡ Group op vec inverse → parts ≡ vec.items

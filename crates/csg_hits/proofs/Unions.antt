@@ -41,7 +41,7 @@ pub added_one : (shape copy : Shape) (owner : ℕ) (no_shadow : Bool) (old new :
 added_one shape copy owner no_shadow old new e alike = λ leaf shadow object n.
     let piece : Piece = record { object = owner; no_shadow = no_shadow; shape = copy } in
     ap (any_strikes leaf shadow object n) e ∙ any_push (strikes_for leaf shadow object n) old piece
-    ∙ ap (λ (v : Sides). any_strikes leaf shadow object n old || (eqb object owner && (counts shadow no_shadow && v.strikes n))) (alike.crossed leaf)
+    ∙ ap (λ (v : Sides). any_strikes leaf shadow object n old || (eqb object owner && (counts shadow no_shadow && v.strikes n))) (alike leaf)
 
 -- the pieces of the first i parts come to others
 abbrev pub AddsParts : List Shape → ℕ → ℕ → Bool → List Piece → List Piece → Type 0

@@ -8,8 +8,9 @@ use Rattle.leaf_boxes.specs.declared.bounds.Box3.{Box3}
 use Rattle.leaf_boxes.specs.Boxes.{IsInBox, box_of, world}
 use Rattle.leaf_boxes.specs.Groups.{shape_box_of}
 use Rattle.leaf_boxes.specs.Holding.{leaf_holds, shape_holds}
+use Rattle.csg_hits.specs.declared.piece.Piece.{Piece}
 use Rattle.csg_hits.specs.Pieces.{Pieces, is_piece_struck}
-use Rattle.csg_hits.specs.Surfaces.{Surfaces}
+use Rattle.csg_hits.specs.Surfaces.{Surfaces, is_struck}
 
 -- ---- where objects hold
 
@@ -39,12 +40,28 @@ box_of_object leaves (Some object) = shape_box_of (map box_of leaves) object.sha
 abbrev pub bounds_of : Surfaces → ℕ → Box3
 bounds_of s object = box_of_object s.leaves (slice_get s.objects object)
 
+-- and so the box of a piece
+abbrev pub box_of_piece : List Leaf → Option Piece → Box3
+box_of_piece leaves None = world
+box_of_piece leaves (Some piece) = shape_box_of (map box_of leaves) piece.shape
+
+abbrev pub piece_bounds_of : Pieces → ℕ → Box3
+piece_bounds_of s piece = box_of_piece s.leaves (slice_get s.pieces piece)
+
 -- each point of the world at which an object holds lies in the box
 abbrev pub HoldsInside : Surfaces → ℕ → Box3 → Type 0
 HoldsInside s object box = (p : Position) → IsInWorld p → object_holds s object p ≡ true → IsInBox box p
 
--- where a piece is struck between two points of the world, one of the two lies in the box
-abbrev pub IsBounded : Pieces → ℕ → Box3 → Type 0
-IsBounded s piece box =
-    (ray : Ray) (shadow : Bool) (t leaf : ℕ) → 1 ≤ t → IsInWorld (point_at ray (t - 1)) → IsInWorld (point_at ray t) → is_piece_struck s ray shadow t piece leaf ≡ true
+-- where something is struck between two points of the world, one of the two lies in the box
+abbrev pub HoldsStrikes : (Ray → Bool → ℕ → ℕ → Bool) → Box3 → Type 0
+HoldsStrikes strikes box =
+    (ray : Ray) (shadow : Bool) (t leaf : ℕ) → 1 ≤ t → IsInWorld (point_at ray (t - 1)) → IsInWorld (point_at ray t) → strikes ray shadow t leaf ≡ true
     → IsInBox box (point_at ray (t - 1)) ⊎ IsInBox box (point_at ray t)
+
+-- so it is of an object
+abbrev pub HoldsStruck : Surfaces → ℕ → Box3 → Type 0
+HoldsStruck s object box = HoldsStrikes (λ ray shadow t leaf. is_struck s ray shadow t object leaf) box
+
+-- and so of a piece
+abbrev pub IsBounded : Pieces → ℕ → Box3 → Type 0
+IsBounded s piece box = HoldsStrikes (λ ray shadow t leaf. is_piece_struck s ray shadow t piece leaf) box

@@ -4,7 +4,7 @@ pub mod Pieces
 pub mod Hits
 pub mod Rows
 pub mod Outlooks
+pub mod Bounds
 pub mod Kept
 pub mod Ready
-pub mod Bounds
 pub mod Searches

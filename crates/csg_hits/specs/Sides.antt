@@ -7,9 +7,6 @@ use Rattle.scene_model.specs.declared.shape.Op.{Op}
 use Rattle.scene_model.specs.declared.shape.Shape.{Shape}
 use Rattle.scene_model.specs.declared.shape.Shape.TheOpen.{Shape-F}
 use Rattle.scene_model.specs.declared.shape.Shape.TheFolds.{fold-Shape}
-use Rattle.leaf_boxes.specs.declared.bounds.Box3.{Box3}
-use Rattle.leaf_boxes.specs.Groups.{shape_box_of}
-use Rattle.leaf_boxes.specs.Holding.{shape_holds}
 pub use Rattle.leaf_boxes.specs.Holding.{differ, with_others, group_holds}
 
 -- of a leaf: whether it holds before a number, whether it holds at it, and whether it is struck there
@@ -62,8 +59,6 @@ sides_step leaf (Shape-F.Group op parts inverse) = as_group op inverse (together
 abbrev pub sides : (ℕ → Crossing) → Shape → Sides
 sides leaf = fold-Shape Sides (sides_step leaf)
 
--- two shapes that can't be told apart: by where they are struck and hold, and by their boxes
-pub record AreAlike (a b : Shape) : Type 0 where
-  pub crossed : (leaf : ℕ → Crossing) → sides leaf a ≡ sides leaf b
-  pub held : (leaf : ℕ → Bool) → shape_holds leaf a ≡ shape_holds leaf b
-  pub boxed : (boxes : List Box3) → shape_box_of boxes a ≡ shape_box_of boxes b
+-- two shapes that can't be told apart by where they hold and are struck
+abbrev pub AreAlike : Shape → Shape → Type 0
+AreAlike a b = (leaf : ℕ → Crossing) → sides leaf a ≡ sides leaf b

@@ -1,7 +1,9 @@
 // A scene's solids and objects, kept for rays.
 ghost use Rattle.std.specs.Prelude.{◌<◌, ◌^◌, vec_len};
+ghost use Rattle.std.specs.List.{All};
+ghost use Rattle.std.proofs.Props.{props};
 ghost use Rattle.csg_hits.specs.Pieces.{ArePieces};
-ghost use Rattle.csg_hits.specs.Kept.{objects_of};
+ghost use Rattle.csg_hits.specs.Kept.{IsBoxed, leaves_of, objects_of};
 
 use crate::asking::{Found, Search};
 use crate::fill::first_on_path;
@@ -16,21 +18,21 @@ use scene_model::Scene;
 use shapes::Path;
 use std::alloc::{AllocError, Global};
 
-/// The leaves and objects of a scene, and the pieces of the objects, with all computed that no ray changes. Its triangles aren't kept.
+/// The leaves of a scene, the boxes of its objects and their pieces, with all computed that no ray changes. Its triangles aren't kept.
 #[derive(Drop)]
 pub struct Built {
     pub(crate) leaves: Vec<ReadyLeaf>,
     objects: Vec<ReadyObject>,
     pub(crate) pieces: Vec<Piece>,
     ghost few: { vec_len pieces < 2 ^ 32 },
+    ghost boxed: { All (IsBoxed (leaves_of leaves.items)) objects.items } by { Prim.hlevel props },
     ghost split: { ArePieces (objects_of objects.items) pieces.items },
 }
 
 impl Built {
     ghost use Rattle.std.specs.Prelude.{◌≡◌, ◌≤◌, Bool, true, Some, IfSome, IfNone, IfOk, length};
-    ghost use Rattle.std.specs.List.{All};
     ghost use Rattle.scene_model.specs.Solids.{IsLeaf};
-    ghost use Rattle.csg_hits.specs.Bounds.{HoldsInside, IsBounded, bounds_of};
+    ghost use Rattle.csg_hits.specs.Bounds.{HoldsInside, HoldsStruck, IsBounded, bounds_of, piece_bounds_of};
     ghost use Rattle.csg_hits.specs.Hits.{Fits};
     ghost use Rattle.csg_hits.specs.Outlooks.{IsFirstIn, IsQuiet};
     ghost use Rattle.csg_hits.specs.Pieces.{is_piece_struck, owner};
@@ -46,7 +48,7 @@ impl Built {
             return Err(AllocError);
         }
         let leaves = ready_leaves(alloc, &scene.leaves)?;
-        let objects = ready_objects(alloc, &scene.objects)?;
+        let objects = ready_objects(alloc, &scene.objects, &leaves)?;
         let pieces = pieces_of(alloc, &scene.objects)?;
         if pieces.len() > u32::MAX as usize {
             return Err(AllocError);
@@ -66,14 +68,14 @@ impl Built {
         self.pieces.len() as u32
     }
 
-    /// The box of an object, along the world's axes; of a number that no object has the world. It takes
-    /// no memory, and is worked out of the leaves' boxes at each call.
+    /// The box of an object, along the world's axes; of a number that no object has the world.
     pub fn bounds(&self, object: u32) -> Box3
         ensures value { result ≡ bounds_of (surfaces_in self.now) object }
         ensures inside { HoldsInside (surfaces_in self.now) object result }
+        ensures struck { HoldsStruck (surfaces_in self.now) object result }
     {
         match self.objects.get(object as usize) {
-            Some(object) => shape_box(&object.shape, &self.leaves),
+            Some(object) => object.bounds,
             None => whole_world(),
         }
     }
@@ -81,7 +83,8 @@ impl Built {
     /// The box of a piece, along the world's axes; of a number that no piece has the world. It takes no
     /// memory, and is worked out of the leaves' boxes at each call.
     pub fn piece_bounds(&self, piece: u32) -> Box3
-        ensures { IsBounded (pieces_in self.now) piece result }
+        ensures value { result ≡ piece_bounds_of (pieces_in self.now) piece }
+        ensures struck { IsBounded (pieces_in self.now) piece result }
     {
         match self.pieces.get(piece as usize) {
             Some(piece) => shape_box(&piece.shape, &self.leaves),

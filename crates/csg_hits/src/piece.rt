@@ -1,10 +1,10 @@
 // The pieces of objects.
 ghost use Rattle.std.specs.Prelude.{◌≡◌, ◌<◌, ◌^◌, IfOk, length};
 ghost use Rattle.csg_hits.specs.Pieces.{AddsPieces, ArePieces};
+ghost use Rattle.csg_hits.specs.Sides.{AreAlike};
 ghost use Rattle.csg_hits.specs.Surfaces.{counts};
 
 use crate::group::takes_all;
-use crate::ready::copied;
 use scene_model::{Object, Shape};
 use std::alloc::{AllocError, Global};
 
@@ -25,6 +25,27 @@ impl Piece {
         ensures { result ≡ counts shadow self.now.no_shadow }
     {
         !(shadow && self.no_shadow)
+    }
+}
+
+/// A shape like another.
+fn copied(alloc: Global, shape: &Shape) -> Result<Shape, AllocError>
+    ensures { IfOk result (λ copy. AreAlike copy shape.now) }
+{
+    match shape {
+        Shape::Leaf(leaf) => Ok(Shape::Leaf(*leaf)),
+        Shape::Group { op, parts, inverse } => {
+            let mut copies = Vec::with_capacity(alloc, parts.len())?;
+            for part in parts {
+                let copy = copied(alloc, part)?;
+                copies.push(copy)?;
+            }
+            Ok(Shape::Group {
+                op: *op,
+                parts: copies,
+                inverse: *inverse,
+            })
+        }
     }
 }
 

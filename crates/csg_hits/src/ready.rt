@@ -1,5 +1,5 @@
 // Leaves and objects of a scene, ready to be met by rays.
-ghost use Rattle.std.specs.Prelude.{◌≡◌, ℕ, ◌<◌, Some, true, false, IfOk};
+ghost use Rattle.std.specs.Prelude.{◌≡◌, ℕ, ◌<◌, Some, true, false};
 ghost use Rattle.scene_model.specs.Solids.{IsLeaf};
 ghost use Rattle.scene_model.specs.declared.shape.Leaf.{Leaf};
 ghost use Rattle.scene_model.specs.declared.scene.Object.{Object};
@@ -10,15 +10,14 @@ ghost use Rattle.leaf_boxes.specs.Boxes.{IsInBox, box_of};
 ghost use Rattle.box_probe.specs.Boxes.{IsInBounds};
 ghost use Rattle.box_probe.specs.Probes.{IsProbe};
 ghost use Rattle.csg_hits.specs.Rows.{IsRowOf};
-ghost use Rattle.csg_hits.specs.Sides.{AreAlike, differ};
+ghost use Rattle.csg_hits.specs.Sides.{differ};
 ghost use Rattle.csg_hits.specs.Surfaces.{face_of, first_holds, leaf_holds, solid_holds};
 
 use crate::row::Row;
 use box_probe::{Bounds, Probe};
-use leaf_boxes::{Box3, Boxed, leaf_box};
-use scene_model::{Leaf, Object, Shape};
+use leaf_boxes::{Box3, Boxed, leaf_box, shape_box};
+use scene_model::{Leaf, Object};
 use shapes::{Path, Point, Solid, solid};
-use std::alloc::{AllocError, Global};
 use std::snapshot::Snapshot;
 
 /// A leaf with its solid and its box.
@@ -45,46 +44,26 @@ pub struct ReadyLeaf {
     ghost within: { (p : Position) → IsInWorld p → leaf_holds leaf.value p ≡ true → IsInBounds reach p },
 }
 
-/// An object with a shape of its own.
+/// An object's box.
 #[derive(Drop)]
 pub struct ReadyObject {
-    pub shape: Shape,
+    pub bounds: Box3,
     /// The object of the scene.
     pub object: Snapshot<Object>,
-    ghost alike: { AreAlike shape object.value.shape },
-}
-
-/// A shape like another.
-pub fn copied(alloc: Global, shape: &Shape) -> Result<Shape, AllocError>
-    ensures { IfOk result (λ copy. AreAlike copy shape.now) }
-{
-    match shape {
-        Shape::Leaf(leaf) => Ok(Shape::Leaf(*leaf)),
-        Shape::Group { op, parts, inverse } => {
-            let mut copies = Vec::with_capacity(alloc, parts.len())?;
-            for part in parts {
-                let copy = copied(alloc, part)?;
-                copies.push(copy)?;
-            }
-            Ok(Shape::Group {
-                op: *op,
-                parts: copies,
-                inverse: *inverse,
-            })
-        }
-    }
 }
 
 impl ReadyObject {
-    /// An object of a scene.
-    pub fn of(alloc: Global, object: &Object) -> Result<ReadyObject, AllocError>
-        ensures { IfOk result (λ ready. ready.object.value ≡ object.now) }
+    ghost use Rattle.csg_hits.specs.Kept.{IsBoxed, leaves_of};
+
+    /// An object of a scene, by the scene's leaves.
+    pub fn of(object: &Object, leaves: &[ReadyLeaf]) -> ReadyObject
+        ensures object { result.object.value ≡ object.now }
+        ensures boxed { IsBoxed (leaves_of leaves.now) result }
     {
-        let shape = copied(alloc, &object.shape)?;
-        Ok(ReadyObject {
-            shape,
+        ReadyObject {
+            bounds: shape_box(&object.shape, leaves),
             object: Snapshot::of(object),
-        })
+        }
     }
 }
 

@@ -1,14 +1,16 @@
 // The hits of rays in trees and lists.
+ghost use Rattle.std.specs.List.{All};
+ghost use Rattle.scene_model.specs.Solids.{IsLeaf};
 ghost use Rattle.shapes.specs.Rays.{IsRayDirection};
 
 use csg_hits::{Built, Hit, ListWorld, World};
 use fix_math::{V3, unit};
+use scene_model::Scene;
 use shapes::Ray;
 use slab_tree::SlabWorld;
 use std::alloc::{AllocError, Global};
 use std::thread::Threads;
-use written_leaves::{Written, vector};
-use written_scenes::scene;
+use written_leaves::vector;
 
 /// A hit as numbers: where, the object, the leaf, the face, and whether the ray goes in.
 pub type Seen = (u64, u32, u32, u8, bool);
@@ -60,30 +62,28 @@ pub fn hits<W: World>(alloc: Global, world: &W, ray: &Ray) -> Result<Vec<Seen>, 
     Ok(found)
 }
 
-/// The tree of some solids, each an object.
+/// The tree of a scene.
 pub fn tree_of(
     rt: &(impl Threads + Sync),
     alloc: Global,
-    solids: &[Written],
-) -> Result<SlabWorld, AllocError> {
-    let scene = scene(alloc, solids)?;
-    SlabWorld::build(rt, alloc, Built::new(alloc, &scene)?)
-}
-
-fn list_of(alloc: Global, solids: &[Written]) -> Result<ListWorld, AllocError> {
-    let scene = scene(alloc, solids)?;
-    Ok(ListWorld::new(Built::new(alloc, &scene)?))
+    scene: &Scene,
+) -> Result<SlabWorld, AllocError>
+    requires { All IsLeaf scene.now.leaves.items }
+{
+    SlabWorld::build(rt, alloc, Built::new(alloc, scene)?)
 }
 
 /// The first way whose hits in a tree aren't those in a list, and how many hits there were before.
 pub fn first_other(
     rt: &(impl Threads + Sync),
     alloc: Global,
-    solids: &[Written],
+    scene: &Scene,
     ways: &[Way],
-) -> Result<(Option<usize>, usize), AllocError> {
-    let tree = tree_of(rt, alloc, solids)?;
-    let list = list_of(alloc, solids)?;
+) -> Result<(Option<usize>, usize), AllocError>
+    requires { All IsLeaf scene.now.leaves.items }
+{
+    let tree = tree_of(rt, alloc, scene)?;
+    let list = ListWorld::new(Built::new(alloc, scene)?);
     let mut met: usize = 0;
     for (number, way) in ways.iter().enumerate() {
         let ray = ray_of(*way);

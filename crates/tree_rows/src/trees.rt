@@ -4,7 +4,7 @@ use std::alloc::{AllocError, Global};
 use std::thread::Threads;
 use written_leaves::Written;
 use written_leaves::Written::{Ball, Block, Half};
-use written_scenes::{cloud, generated};
+use written_scenes::{cloud, generated, scene, united};
 
 /// The ways from a point to 64 places of a plane.
 fn ways(alloc: Global, from: [i32; 3]) -> Result<Vec<Way>, AllocError> {
@@ -23,21 +23,21 @@ fn first_hits(
     solids: &[Written],
     way: Way,
 ) -> Result<Vec<Seen>, AllocError> {
-    let world = tree_of(rt, alloc, solids)?;
+    let world = tree_of(rt, alloc, &scene(alloc, solids)?)?;
     hits(alloc, &world, &ray_of(way))
 }
 
 #[test]
 fn rows_of_balls_are_hit_in_a_tree_as_in_a_list(rt: HostRuntime) -> Result<(), AllocError> {
     let alloc = rt.alloc();
-    let solids = generated(alloc, 200)?;
+    let scene = scene(alloc, &generated(alloc, 200)?)?;
     for from in [
         [0, 393216, -917504],
         [-3_000_000, 10_000, 200_000],
         [1_500_000, -40_000, 1_100_000],
         [131072, 0, 131072],
     ] {
-        let (other, met) = first_other(&rt, alloc, &solids, &ways(alloc, from)?)?;
+        let (other, met) = first_other(&rt, alloc, &scene, &ways(alloc, from)?)?;
         assert!(rt; other.is_none(), "ray {other:?} from {from:?}");
         assert!(rt; met > 64, "{met} surfaces");
     }
@@ -47,11 +47,25 @@ fn rows_of_balls_are_hit_in_a_tree_as_in_a_list(rt: HostRuntime) -> Result<(), A
 #[test]
 fn strewn_balls_are_hit_in_a_tree_as_in_a_list(rt: HostRuntime) -> Result<(), AllocError> {
     let alloc = rt.alloc();
-    let solids = cloud(alloc, 300, 65536)?;
+    let scene = scene(alloc, &cloud(alloc, 300, 65536)?)?;
     for from in [[-400_000, 100_000, 800_000], [0, 700_000, 1_400_000]] {
-        let (other, met) = first_other(&rt, alloc, &solids, &ways(alloc, from)?)?;
+        let (other, met) = first_other(&rt, alloc, &scene, &ways(alloc, from)?)?;
         assert!(rt; other.is_none(), "ray {other:?} from {from:?}");
         assert!(rt; met > 64, "{met} surfaces");
+    }
+    Ok(())
+}
+
+#[test]
+fn a_union_of_a_thousand_balls_is_hit_in_a_tree_as_in_a_list(
+    rt: HostRuntime,
+) -> Result<(), AllocError> {
+    let alloc = rt.alloc();
+    let scene = united(alloc, &cloud(alloc, 1000, 65536)?)?;
+    for from in [[-400_000, 100_000, 800_000], [0, 700_000, 1_400_000]] {
+        let (other, met) = first_other(&rt, alloc, &scene, &ways(alloc, from)?)?;
+        assert!(rt; other.is_none(), "ray {other:?} from {from:?}");
+        assert!(rt; met > 128, "{met} surfaces");
     }
     Ok(())
 }

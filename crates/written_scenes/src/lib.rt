@@ -5,4 +5,4 @@ mod clouds;
 mod scenes;
 
 pub use clouds::{cloud, generated};
-pub use scenes::scene;
+pub use scenes::{scene, united};

@@ -1,10 +1,10 @@
-// Scenes of solids, each an object of its own.
+// Scenes of solids.
 ghost use Rattle.std.specs.Prelude.{◌≡◌, [], ◌∷◌, ◌++◌, IfSome, IfOk};
 ghost use Rattle.std.specs.List.{All};
 ghost use Rattle.scene_model.specs.Solids.{IsLeaf};
 
 use fix_math::Fix;
-use scene_model::{Camera, Leaf, Object, Scene, Shape};
+use scene_model::{Camera, Leaf, Object, Op, Scene, Shape};
 use std::alloc::{AllocError, Global};
 use written_leaves::{Move, Written, leaf, moved, vector};
 
@@ -63,20 +63,53 @@ fn scene_of(alloc: Global, leaves: Vec<Leaf>, objects: Vec<Object>) -> Scene
     }
 }
 
-/// The scene of some solids.
+/// The leaves of some solids.
+fn leaves_of(alloc: Global, solids: &[Written]) -> Result<Vec<Leaf>, AllocError>
+    ensures { IfOk result (λ leaves. All IsLeaf leaves.items) }
+{
+    let mut leaves = Vec::with_capacity(alloc, solids.len())?;
+    for solid in solids {
+        leaves = with_leaf(leaves, written(solid))?;
+    }
+    Ok(leaves)
+}
+
+/// The scene of some solids, each an object of its own.
 pub fn scene(alloc: Global, solids: &[Written]) -> Result<Scene, AllocError>
     ensures { IfOk result (λ scene. All IsLeaf scene.leaves.items) }
 {
-    let mut leaves = Vec::with_capacity(alloc, solids.len())?;
+    let leaves = leaves_of(alloc, solids)?;
     let mut objects = Vec::new(alloc);
     let mut number: u32 = 0;
-    for solid in solids {
-        leaves = with_leaf(leaves, written(solid))?;
+    for _ in solids {
         objects.push(Object {
             shape: Shape::Leaf(number),
             no_shadow: false,
         })?;
         number = number.saturating_add(1);
     }
+    Ok(scene_of(alloc, leaves, objects))
+}
+
+/// The scene of one object, the union of some solids.
+pub fn united(alloc: Global, solids: &[Written]) -> Result<Scene, AllocError>
+    ensures { IfOk result (λ scene. All IsLeaf scene.leaves.items) }
+{
+    let leaves = leaves_of(alloc, solids)?;
+    let mut parts = Vec::new(alloc);
+    let mut number: u32 = 0;
+    for _ in solids {
+        parts.push(Shape::Leaf(number))?;
+        number = number.saturating_add(1);
+    }
+    let mut objects = Vec::new(alloc);
+    objects.push(Object {
+        shape: Shape::Group {
+            op: Op::Union,
+            parts,
+            inverse: false,
+        },
+        no_shadow: false,
+    })?;
     Ok(scene_of(alloc, leaves, objects))
 }

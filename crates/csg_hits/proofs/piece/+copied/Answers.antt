@@ -1,7 +1,7 @@
 use Rattle.std.proofs.Common.{sym, subst, List, ◌+◌}
 use Rattle.scene_model.specs.declared.shape.Shape.{Shape}
 use Rattle.csg_hits.proofs.Copies.{AreCopies, no_copies, one_copy_more, group_copied}
-use Rattle.csg_hits.proofs.ready.+copied.Goals as goal
+use Rattle.csg_hits.proofs.piece.+copied.Goals as goal
 
 pub loop-part-init : goal.loop-part-init
 loop-part-init t c = let e = c.in_ok-copies-in-Group.ensures.items in rw e (no_copies c.deref-part-items.result.now)
