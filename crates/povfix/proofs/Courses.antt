@@ -3,7 +3,8 @@ use Rattle.std.specs.Prelude.{if◌then◌else◌}
 use Rattle.std.proofs.Common.{◌≡◌, ◌≢◌, Bool, true, false, ℕ, zero, suc, ◌+◌, ◌-◌, ◌<◌, ◌≤◌, ⊎_elim, List, [], ◌++◌, length, take, Option, Some, Ok, Err, refl, sym, ap, ◌∙◌, subst, arith, add-one}
 use Rattle.std.proofs.lemmas.Bool.{cases_lt}
 use Rattle.std.proofs.lemmas.List.{append-nil, append_assoc}
-use Rattle.shelf.specs.Disk.{Contents, SameOthers, Tells}
+use Rattle.shelf.specs.Disk.{Contents, Images, SameOthers, Tells}
+use Rattle.shelf.specs.Moments.{ByStages}
 use Rattle.shelf.specs.Stream.{with_bytes}
 use Rattle.directive_machine.specs.declared.texts.Text.{Text}
 use Rattle.directive_machine.specs.Expansions.{Handed}
@@ -14,18 +15,15 @@ use Rattle.povfix.specs.declared.outcome.Fault.{Fault}
 use Rattle.povfix.specs.declared.outcome.Fault.TheVariants.{Done, OptionFault, SceneFault, Limit, Absent, TextFault, ShelfFault, MessageFault, NoMemory}
 use Rattle.povfix.specs.Frames.{Frame, frame_of, frames_from, frames_of, is_summed, reached_by, AreStored, IsBeside, IsExpanded, IsFinished, IsStored, SameBesides}
 use Rattle.povfix.specs.Lines.{summary_of, Says}
+use Rattle.povfix.specs.Moments.{IsStage, OthersStay}
 use Rattle.povfix.specs.Said.{Begins, IsFrameSaid, IsSaid, NextBegins, no_memory_line, shelf_fault_line, text_fault_line}
 use Rattle.povfix.specs.Steps.{IsCourse, IsDone, IsEnd, IsEnding}
 use Rattle.povfix.specs.Verdict.{AreDrawn, FrameVerdict, FramesVerdict, IsFrameFault, IsVerdict, NextSays, Verdict, behind, done, with_summary}
+use Rattle.povfix.proofs.Stages.{as_stages, from_next, from_start, next_stages, no_stage, same_stages, AreApart, StageAt}
+use Rattle.povfix.proofs.Stays.{others_now}
 use Rattle.povfix.proofs.Saying.{less_at, rose_from, says_behind, says_same, with_both, with_nothing}
 
 -- ---- frames by their places
-
-from_start : (n : ℕ) → n + 0 ≡ n
-from_start n = omega arith
-
-from_next : (n i : ℕ) → n + suc i ≡ n + 1 + i
-from_next n i = omega arith
 
 pub length_frames : (plan : Plan) (n count : ℕ) → length (frames_from plan n count) ≡ count
 unfolding frames_from
@@ -239,20 +237,16 @@ module _ (plan : Plan) (texts : List Text) (before mid now : Option (List ℕ)) 
 
 -- ---- what the first so many frames leave
 
-pub record IsSoFar (plan : Plan) (told : Option (List Text)) (texts_before texts_now shelf_before shelf_now sink_before sink_now : ℕ) (old new images images' : Contents) (before now : Option (List ℕ)) (k total : ℕ) : Type 0 where
+pub record IsSoFar (plan : Plan) (told : Option (List Text)) (texts_before texts_now shelf_before shelf_now sink_before sink_now : ℕ) (old new : Contents) (moment moment' : ℕ) (images images' : Images) (before now : Option (List ℕ)) (k total : ℕ) : Type 0 where
   pub stored : (texts : List Text) → told ≡ Some texts → (i : ℕ) → i < k → IsStored (frame_of plan (plan.from + i)) texts new
-  pub durable : (texts : List Text) → told ≡ Some texts → (i : ℕ) → i < k → IsStored (frame_of plan (plan.from + i)) texts images'
+  pub durable : (texts : List Text) → told ≡ Some texts → (i : ℕ) → i < k → IsStored (frame_of plan (plan.from + i)) texts (images' moment')
   pub said : (texts : List Text) → told ≡ Some texts → (messages : List ℕ) × DrawnFrom plan texts plan.from k messages total × (now ≡ with_bytes before messages)
   pub others : (n c : List ℕ) → ((i : ℕ) → i < k → n ≢ picture_name plan (plan.from + i)) → new n c → old n c
-  pub crash_others : (n c : List ℕ) → ((i : ℕ) → i < k → n ≢ picture_name plan (plan.from + i)) → images' n c → images n c
+  pub moments : ByStages moment moment' images images' (StageAt plan told (images moment) k)
   pub tells : Tells old new
   pub texts_later : texts_before ≤ texts_now
   pub shelf_later : shelf_before ≤ shelf_now
   pub sink_later : sink_before ≤ sink_now
-
--- different frames have pictures of different names
-pub AreApart : Plan → Type 0
-AreApart plan = (i j : ℕ) → i < plan.to - plan.from + 1 → j < plan.to - plan.from + 1 → picture_name plan (plan.from + i) ≡ picture_name plan (plan.from + j) → i ≡ j
 
 pub are_apart : (plan : Plan) → IsPlan plan → ((frame other : ℕ) → IsFrame plan frame → IsFrame plan other → picture_name plan frame ≡ picture_name plan other → frame ≡ other) → AreApart plan
 unfolding AreApart
@@ -260,13 +254,13 @@ are_apart plan fits law i j low high same =
     let sum = law (plan.from + i) (plan.from + j) (omega arith, omega (arith, low, fits.row)) (omega arith, omega (arith, high, fits.row)) same in
     omega (arith, sum)
 
-pub start : (plan : Plan) (told : Option (List Text)) (texts shelf sink : ℕ) (holds images : Contents) (written : Option (List ℕ)) → IsSoFar plan told texts texts shelf shelf sink sink holds holds images images written written 0 0
-start plan told texts shelf sink holds images written = record {
+pub start : (plan : Plan) (told : Option (List Text)) (texts shelf sink : ℕ) (holds : Contents) (moment : ℕ) (images : Images) (written : Option (List ℕ)) → IsSoFar plan told texts texts shelf shelf sink sink holds holds moment moment images images written written 0 0
+start plan told texts shelf sink holds moment images written = record {
   stored = λ texts held i lt. absurd (omega (arith, lt));
   durable = λ texts held i lt. absurd (omega (arith, lt));
   said = λ texts held. ([], (refl, refl), with_nothing written);
   others = λ n c beside now. now;
-  crash_others = λ n c beside now. now;
+  moments = no_stage plan told moment images;
   tells = λ n c held. (c, held);
   texts_later = omega arith;
   shelf_later = omega arith;
@@ -279,10 +273,16 @@ unfolding AreApart
 still plan texts k mid new apart lt others stored i less = λ c held.
     stored i less c (others (picture_name plan (plan.from + i)) c (λ same. absurd (omega (arith, less, apart i k (omega (arith, less, lt)) lt same))) held)
 
-module _ (plan : Plan) (told : Option (List Text)) (tb tm tn sb sm sn kb km kn : ℕ) (old mid new images images' images'' : Contents) (before said now : Option (List ℕ)) (k total : ℕ) (apart : AreApart plan) (lt : k < plan.to - plan.from + 1) (so_far : IsSoFar plan told tb tm sb sm kb km old mid images images' before said k total) (others : SameOthers (picture_name plan (plan.from + k)) mid new) (crash_others : SameOthers (picture_name plan (plan.from + k)) images' images'') (tells : Tells mid new) where
-  beside : (low high last : Contents) → ((n c : List ℕ) → ((i : ℕ) → i < k → n ≢ picture_name plan (plan.from + i)) → high n c → low n c) → SameOthers (picture_name plan (plan.from + k)) high last → (n c : List ℕ) → ((i : ℕ) → i < k + 1 → n ≢ picture_name plan (plan.from + i)) → last n c → low n c
-  beside low high last before here n c apart_all now =
-      before n c (λ i less. apart_all i (omega (arith, less))) (here n c (apart_all k (omega arith)) now)
+module _ (plan : Plan) (told : Option (List Text)) (tb tm tn sb sm sn kb km kn : ℕ) (old mid new : Contents) (m m' m'' : ℕ) (images images' images'' : Images) (before said now : Option (List ℕ)) (k total : ℕ) (apart : AreApart plan) (lt : k < plan.to - plan.from + 1) (so_far : IsSoFar plan told tb tm sb sm kb km old mid m m' images images' before said k total) (others : SameOthers (picture_name plan (plan.from + k)) mid new) (crash_others : OthersStay (picture_name plan (plan.from + k)) m' m'' images' images'') (tells : Tells mid new) where
+  beside : (n c : List ℕ) → ((i : ℕ) → i < k + 1 → n ≢ picture_name plan (plan.from + i)) → new n c → old n c
+  beside n c apart_all now = so_far.others n c (λ i less. apart_all i (omega (arith, less))) (others n c (apart_all k (omega arith)) now)
+
+  -- the files of earlier frames stay through a crash
+  still_durable : (texts : List Text) → told ≡ Some texts → (i : ℕ) → i < k → IsStored (frame_of plan (plan.from + i)) texts (images'' m'')
+  still_durable texts held = still plan texts k (images' m') (images'' m'') apart lt (others_now (picture_name plan (plan.from + k)) m' m'' images' images'' crash_others) (so_far.durable texts held)
+
+  one_more_stored : ByStages m m'' images images'' (StageAt plan told (images m) (k + 1))
+  one_more_stored = next_stages plan told m m' m'' images images' images'' k so_far.moments apart lt so_far.durable crash_others
 
   tells_all : Tells old new
   tells_all n c held = tells n (so_far.tells n c held).0 (so_far.tells n c held).1
@@ -296,56 +296,56 @@ module _ (plan : Plan) (told : Option (List Text)) (tb tm tn sb sm sn kb km kn :
         more.2 ∙ ap (λ w. with_bytes w more.0) front.2 ∙ with_both before front.0 more.0,
       )
 
-  pub step : ((texts : List Text) → told ≡ Some texts → IsStored (frame_of plan (plan.from + k)) texts new) → ((texts : List Text) → told ≡ Some texts → IsStored (frame_of plan (plan.from + k)) texts images'') → (told_then : Option (List Text)) (own : ℕ) → told_then ≡ told → IsDone (frame_of plan (plan.from + k)) told_then said now own → tm ≤ tn → sm ≤ sn → km ≤ kn → IsSoFar plan told tb tn sb sn kb kn old new images images'' before now (k + 1) (total + own)
+  pub step : ((texts : List Text) → told ≡ Some texts → IsStored (frame_of plan (plan.from + k)) texts new) → ((texts : List Text) → told ≡ Some texts → IsStored (frame_of plan (plan.from + k)) texts (images'' m'')) → (told_then : Option (List Text)) (own : ℕ) → told_then ≡ told → IsDone (frame_of plan (plan.from + k)) told_then said now own → tm ≤ tn → sm ≤ sn → km ≤ kn → IsSoFar plan told tb tn sb sn kb kn old new m m'' images images'' before now (k + 1) (total + own)
   step stored durable told_then own same here texts_later shelf_later sink_later = record {
     stored = λ texts held. one_more (λ i. IsStored (frame_of plan (plan.from + i)) texts new) k (still plan texts k mid new apart lt others (so_far.stored texts held)) (stored texts held);
-    durable = λ texts held. one_more (λ i. IsStored (frame_of plan (plan.from + i)) texts images'') k (still plan texts k images' images'' apart lt crash_others (so_far.durable texts held)) (durable texts held);
+    durable = λ texts held. one_more (λ i. IsStored (frame_of plan (plan.from + i)) texts (images'' m'')) k (still_durable texts held) (durable texts held);
     said = said_more told_then own same here;
-    others = beside old mid new so_far.others others;
-    crash_others = beside images images' images'' so_far.crash_others crash_others;
+    others = beside;
+    moments = one_more_stored;
     tells = tells_all;
     texts_later = omega (arith, so_far.texts_later, texts_later);
     shelf_later = omega (arith, so_far.shelf_later, shelf_later);
     sink_later = omega (arith, so_far.sink_later, sink_later);
   }
 
-  pub stops : (fault : Fault) (told_then : Option (List Text)) → told_then ≡ told → km ≤ kn → IsEnd (frame_of plan (plan.from + k)) told_then tm tn sm sn km kn mid new images' images'' said now fault → IsCourse plan told tb tn sb sn kb kn old new images images'' before now k (Err fault)
+  pub stops : (fault : Fault) (told_then : Option (List Text)) → told_then ≡ told → km ≤ kn → IsEnd (frame_of plan (plan.from + k)) told_then tm tn sm sn km kn mid new m' m'' images' images'' said now fault → IsCourse plan told tb tn sb sn kb kn old new m m'' images images'' before now k (Err fault)
   stops fault told_then same sink_later end = record {
     frames = of_frames fault end.ending;
     count = unfinished (frames_of plan) fault k end.ending (subst (λ n. k ≤ n - 1) (sym (length_frames plan plan.from (plan.to - plan.from + 1))) (omega (arith, lt)));
     stored = λ texts held. stored_front plan texts new plan.from k (plan.to - plan.from + 1) (omega (arith, lt)) (still plan texts k mid new apart lt others (so_far.stored texts held));
-    durable = λ texts held. stored_front plan texts images'' plan.from k (plan.to - plan.from + 1) (omega (arith, lt)) (still plan texts k images' images'' apart lt crash_others (so_far.durable texts held));
+    durable = λ texts held. stored_front plan texts (images'' m'') plan.from k (plan.to - plan.from + 1) (omega (arith, lt)) (still_durable texts held);
     said = λ texts held. let front = so_far.said texts held in said_at plan texts before said now kb km kn k front.0 total lt front.1 front.2 so_far.sink_later fault (end.said texts (same ∙ held));
     sink_later = omega (arith, so_far.sink_later, sink_later);
     text_fault = λ e. rose_from tb tm tn so_far.texts_later (end.text_fault e);
     shelf_fault = λ e. rose_from sb sm sn so_far.shelf_later (end.shelf_fault e);
     message_fault = λ e. rose_from kb km kn so_far.sink_later (end.message_fault e);
     others = reached_cases (λ n. SameBesides (take n (frames_of plan)) old new) fault k
-        (λ e. λ n c apart_all now. beside old mid new so_far.others others n c (beside_front plan n plan.from (k + 1) (plan.to - plan.from + 1) (omega (arith, lt)) apart_all) now)
+        (λ e. λ n c apart_all now. beside n c (beside_front plan n plan.from (k + 1) (plan.to - plan.from + 1) (omega (arith, lt)) apart_all) now)
         (λ e. λ n c apart_all now. so_far.others n c (beside_front plan n plan.from k (plan.to - plan.from + 1) (omega (arith, lt)) apart_all) (end.kept e n c now));
-    crash_others = reached_cases (λ n. SameBesides (take n (frames_of plan)) images images'') fault k
-        (λ e. λ n c apart_all now. beside images images' images'' so_far.crash_others crash_others n c (beside_front plan n plan.from (k + 1) (plan.to - plan.from + 1) (omega (arith, lt)) apart_all) now)
-        (λ e. λ n c apart_all now. so_far.crash_others n c (beside_front plan n plan.from k (plan.to - plan.from + 1) (omega (arith, lt)) apart_all) (end.crash_kept e n c now));
+    moments = reached_cases (λ n. ByStages m m'' images images'' (IsStage (take n (frames_of plan)) told (images m))) fault k
+        (λ e. as_stages plan told m m'' images images'' (k + 1) (omega (arith, lt)) one_more_stored)
+        (λ e. as_stages plan told m m'' images images'' k (omega (arith, lt)) (same_stages plan told m m' m'' images images' images'' k so_far.moments (end.crash_kept e)));
     tells = tells_all;
   }
 
 -- all frames are finished
-ends : (plan : Plan) (told : Option (List Text)) (tb tn sb sn kb kn : ℕ) (old new images images' : Contents) (before now : Option (List ℕ)) (total : ℕ) → IsSoFar plan told tb tn sb sn kb kn old new images images' before now (plan.to - plan.from + 1) total → IsCourse plan told tb tn sb sn kb kn old new images images' before now (plan.to - plan.from + 1) (Ok total)
-ends plan told tb tn sb sn kb kn old new images images' before now total so_far = record {
+ends : (plan : Plan) (told : Option (List Text)) (tb tn sb sn kb kn : ℕ) (old new : Contents) (m m' : ℕ) (images images' : Images) (before now : Option (List ℕ)) (total : ℕ) → IsSoFar plan told tb tn sb sn kb kn old new m m' images images' before now (plan.to - plan.from + 1) total → IsCourse plan told tb tn sb sn kb kn old new m m' images images' before now (plan.to - plan.from + 1) (Ok total)
+ends plan told tb tn sb sn kb kn old new m m' images images' before now total so_far = record {
   frames = tt;
   count = sym (length_frames plan plan.from (plan.to - plan.from + 1));
   stored = λ texts held. stored_front plan texts new plan.from (plan.to - plan.from + 1) (plan.to - plan.from + 1) (omega arith) (so_far.stored texts held);
-  durable = λ texts held. stored_front plan texts images' plan.from (plan.to - plan.from + 1) (plan.to - plan.from + 1) (omega arith) (so_far.durable texts held);
+  durable = λ texts held. stored_front plan texts (images' m') plan.from (plan.to - plan.from + 1) (plan.to - plan.from + 1) (omega arith) (so_far.durable texts held);
   said = so_far.said;
   text_fault = λ e. cc;
   shelf_fault = λ e. cc;
   message_fault = λ e. cc;
   sink_later = so_far.sink_later;
   others = λ n c apart_all now. so_far.others n c (beside_front plan n plan.from (plan.to - plan.from + 1) (plan.to - plan.from + 1) (omega arith) apart_all) now;
-  crash_others = λ n c apart_all now. so_far.crash_others n c (beside_front plan n plan.from (plan.to - plan.from + 1) (plan.to - plan.from + 1) (omega arith) apart_all) now;
+  moments = as_stages plan told m m' images images' (plan.to - plan.from + 1) (omega arith) so_far.moments;
   tells = so_far.tells;
 }
 
-pub ends_at : (plan : Plan) (told : Option (List Text)) (tb tn sb sn kb kn : ℕ) (old new images images' : Contents) (before now : Option (List ℕ)) (k total : ℕ) → IsSoFar plan told tb tn sb sn kb kn old new images images' before now k total → k ≡ plan.to - plan.from + 1 → IsCourse plan told tb tn sb sn kb kn old new images images' before now (plan.to - plan.from + 1) (Ok total)
-ends_at plan told tb tn sb sn kb kn old new images images' before now k total so_far same =
-    ends plan told tb tn sb sn kb kn old new images images' before now total (subst (λ n. IsSoFar plan told tb tn sb sn kb kn old new images images' before now n total) same so_far)
+pub ends_at : (plan : Plan) (told : Option (List Text)) (tb tn sb sn kb kn : ℕ) (old new : Contents) (m m' : ℕ) (images images' : Images) (before now : Option (List ℕ)) (k total : ℕ) → IsSoFar plan told tb tn sb sn kb kn old new m m' images images' before now k total → k ≡ plan.to - plan.from + 1 → IsCourse plan told tb tn sb sn kb kn old new m m' images images' before now (plan.to - plan.from + 1) (Ok total)
+ends_at plan told tb tn sb sn kb kn old new m m' images images' before now k total so_far same =
+    ends plan told tb tn sb sn kb kn old new m m' images images' before now total (subst (λ n. IsSoFar plan told tb tn sb sn kb kn old new m m' images images' before now n total) same so_far)

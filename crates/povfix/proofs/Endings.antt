@@ -9,7 +9,7 @@ use Rattle.scene_expr.specs.declared.value.ExprFault.{ExprFault}
 use Rattle.scene_expr.specs.declared.value.Settings.{Settings}
 use Rattle.shelf.specs.declared.disk.HoldFail.{HoldFail}
 use Rattle.shelf.specs.Causes.{Rose}
-use Rattle.shelf.specs.Disk.{Contents, SameContents}
+use Rattle.shelf.specs.Disk.{Contents, Images, SameContents}
 use Rattle.shelf.specs.Stream.{with_bytes, GrewByLess}
 use Rattle.scene_model.specs.declared.scene.Scene.{Scene}
 use Rattle.scene_model.specs.declared.scene.Sheet.{Sheet}
@@ -30,6 +30,7 @@ use Rattle.povfix.specs.declared.outcome.Fault.TheVariants.{Done, OptionFault, S
 use Rattle.povfix.specs.Conversions.{error_text, hold_fault, stop_fault}
 use Rattle.povfix.specs.Frames.{Frame, filed, format_of, frame_of, generated_for, sight_of, IsExpanded, IsMeaning, IsStopped, Shows}
 use Rattle.povfix.specs.Lines.{line_left, line_of, messages_left, name_under, text_number, IsPlaced, Says}
+use Rattle.povfix.specs.Moments.{AllStay}
 use Rattle.povfix.specs.Said.{Begins, IsFrameSaid}
 use Rattle.povfix.specs.Scenes.{drawable, sheets_fault, without_sheets, IsRead}
 use Rattle.povfix.specs.Steps.{IsCarried, IsCut, IsEnd, IsLeft, IsUnparsed}
@@ -267,9 +268,9 @@ stored_cut law frame told tb tn sb sn kb kn before now HoldFail.NoMemory verdict
   message_fault = λ e. cc;
 }
 
-pub stored_kept : (old new : Contents) (fail : HoldFail) → (fail ≡ HoldFail.NoMemory → SameContents old new) → hold_fault fail ≢ ShelfFault → SameContents old new
-stored_kept old new HoldFail.Failed kept other = absurd (other refl)
-stored_kept old new HoldFail.NoMemory kept other = kept refl
+pub stored_kept : (Kept : Type 0) (fail : HoldFail) → (fail ≡ HoldFail.NoMemory → Kept) → hold_fault fail ≢ ShelfFault → Kept
+stored_kept Kept HoldFail.Failed kept other = absurd (other refl)
+stored_kept Kept HoldFail.NoMemory kept other = kept refl
 
 -- the file's bytes are what is stored
 pub stored_meaning : (frame : Frame) (texts : List Text) (holds : Contents) (name name' file file' : List ℕ) → name' ≡ name → file' ≡ file → ((c : List ℕ) → holds name' c → c ≡ file') → IsMeaning frame texts file → (c : List ℕ) → holds name c → IsMeaning frame texts c
@@ -343,9 +344,9 @@ placed_other ShelfFault placed = absurd placed
 placed_other MessageFault placed = absurd placed
 placed_other NoMemory placed = absurd placed
 
-module _ (law : OneExpansion) (frame : Frame) (told : Option (List Text)) (tb tn sb sn kb km kn : ℕ) (old new images images' : Contents) (before mid now : Option (List ℕ)) (later : kb ≤ km) (last : km ≤ kn) (fault : Fault) (report : Option Report) (cut : IsCut frame told tb tn sb sn kb km before mid (record { fault = fault; report = report })) (kept : fault ≢ ShelfFault → SameContents old new) (crash_kept : fault ≢ ShelfFault → SameContents images images') where
+module _ (law : OneExpansion) (frame : Frame) (told : Option (List Text)) (tb tn sb sn kb km kn : ℕ) (old new : Contents) (m m' : ℕ) (images images' : Images) (before mid now : Option (List ℕ)) (later : kb ≤ km) (last : km ≤ kn) (fault : Fault) (report : Option Report) (cut : IsCut frame told tb tn sb sn kb km before mid (record { fault = fault; report = report })) (kept : fault ≢ ShelfFault → SameContents old new) (crash_kept : fault ≢ ShelfFault → AllStay m m' images images') where
   abbrev End : Fault → Type 0
-  End = IsEnd frame told tb tn sb sn kb kn old new images images' before now
+  End = IsEnd frame told tb tn sb sn kb kn old new m m' images images' before now
 
   as_told : Says mid now km kn (messages_left report ++ line_left report fault) → End fault
   as_told says = record {

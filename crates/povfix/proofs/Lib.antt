@@ -1,4 +1,6 @@
 pub mod Storing
+pub mod Stays
+pub mod Stages
 pub mod Saying
 pub mod Reports
 pub mod Beginnings
@@ -7,6 +9,7 @@ pub mod Courses
 pub mod OneFrame
 pub mod Verdicts
 pub mod Summaries
+pub mod Planned
 pub mod Alike
 pub mod Formats
 pub mod OneMeaning

@@ -33,6 +33,11 @@ whole_stored file slots slots' slots'' slot before written cut synced same same'
     d.2 ∙ written_front file e.0 d.0 e.2
 
 -- what a crash may leave after the sync is what is read
-pub synced : (slots slots' slots'' : Slots) (slot : ℕ) (reads images : Contents) → SameSlots slots slots' → SameSlots slots' slots'' → Within (reads (name_at (slots'' slot))) (images (name_at (slots'' slot))) → (c : List ℕ) → images (name_at (slots slot)) c → reads (name_at (slots slot)) c
+synced : (slots slots' slots'' : Slots) (slot : ℕ) (reads images : Contents) → SameSlots slots slots' → SameSlots slots' slots'' → Within (reads (name_at (slots'' slot))) (images (name_at (slots'' slot))) → (c : List ℕ) → images (name_at (slots slot)) c → reads (name_at (slots slot)) c
 synced slots slots' slots'' slot reads images same same' within =
     subst (λ name. Within (reads name) (images name)) (ap name_at (same' slot ∙ same slot)) within
+
+-- what a crash may leave after the write, the cut and the sync is the file
+pub whole_durable : (file : List ℕ) (slots slots' slots'' : Slots) (slot : ℕ) (before written cut reads images : Contents) → SameSlots slots slots' → SameSlots slots' slots'' → Follows (Written 0 file) (before (name_at (slots slot))) (written (name_at (slots slot))) → Follows (Shortened (length file)) (written (name_at (slots' slot))) (cut (name_at (slots' slot))) → SameContents cut reads → Within (reads (name_at (slots'' slot))) (images (name_at (slots'' slot))) → (c : List ℕ) → images (name_at (slots slot)) c → c ≡ file
+whole_durable file slots slots' slots'' slot before written cut reads images same same' writes cuts syncs within c image =
+    whole_stored file slots slots' slots'' slot before written cut reads same same' writes cuts syncs c (synced slots slots' slots'' slot reads images same same' within c image)

@@ -7,7 +7,7 @@ use Rattle.options.specs.declared.fault.OptionFault.{OptionFault as Refused}
 use Rattle.options.specs.declared.plan.Plan.{Plan}
 use Rattle.povfix.specs.declared.outcome.Fault.{Fault}
 use Rattle.povfix.specs.declared.outcome.Fault.TheVariants.{Done, OptionFault, SceneFault, Limit, Absent, TextFault, ShelfFault, MessageFault, NoMemory}
-use Rattle.povfix.specs.Frames.{Frame, before_summary, frames_from, frames_in, frames_of, is_summed, IsFinished}
+use Rattle.povfix.specs.Frames.{Frame, before_summary, frames_from, frames_of, is_summed, IsFinished}
 use Rattle.povfix.specs.Lines.{summary_of}
 use Rattle.povfix.specs.Said.{IsSaid, no_memory_line}
 use Rattle.povfix.specs.Steps.{fault_of, IsCourseSaid, IsSummed}
@@ -121,13 +121,6 @@ module _ (asked : Result Plan Refused) (plan : Plan) (is : asked ≡ Ok plan) (e
       (summed_said plan texts n total before mid now fb fm fn later
       (subst (λ e. IsFinished (frames_of plan) (fault_of e) n) ends count)
       (subst (λ e. IsCourseSaid plan texts n e before mid fb fm) ends said) fault summed)
-
-  pub finished_end : (total : ℕ) (mid now : Option (List ℕ)) (fm fn : ℕ) → end ≡ Ok total → IsFinished (frames_of plan) (fault_of end) n → IsSummed (summary_of plan.generate plan.width plan.height total) mid now fm fn fault → IsFinished (frames_in asked) fault' n'
-  finished_end total mid now fm fn ends count summed =
-      subst (λ f. IsFinished (frames_in asked) f n') (sym same_fault)
-      (subst (λ k. IsFinished (frames_in asked) fault k) (sym same_count)
-      (subst (λ r. IsFinished (frames_in r) fault n) (sym is)
-      (summed_finished plan n total mid now fm fn (subst (λ e. IsFinished (frames_of plan) (fault_of e) n) ends count) fault summed)))
 
   -- a fault ends them
   pub cut_end : (texts : List Text) (before now : Option (List ℕ)) (fb fn : ℕ) → end ≡ Err fault → IsCourseSaid plan texts n end before now fb fn → IsSaid asked texts n' fault' before now fb fn

@@ -4,4 +4,6 @@ pub mod Conversions
 pub mod Lines
 pub mod Verdict
 pub mod Said
+pub mod Moments
 pub mod Steps
+pub mod Runs

@@ -1,7 +1,8 @@
 -- How a frame ends, and how far the frames of a plan come.
 use Rattle.std.specs.Prelude.{ℕ, ◌≤◌, ◌≡◌, ◌≢◌, List, [], ◌++◌, take, Option, Some, Result, Ok, Err}
 use Rattle.shelf.specs.Causes.{Rose}
-use Rattle.shelf.specs.Disk.{Contents, SameContents, Tells}
+use Rattle.shelf.specs.Disk.{Contents, Images, SameContents, Tells}
+use Rattle.shelf.specs.Moments.{ByStages}
 use Rattle.shelf.specs.Stream.{with_bytes, GrewByLess}
 use Rattle.directive_machine.specs.declared.texts.Text.{Text}
 use Rattle.directive_machine.specs.Expansions.{Handed}
@@ -13,6 +14,7 @@ use Rattle.povfix.specs.declared.outcome.Fault.{Fault}
 use Rattle.povfix.specs.declared.outcome.Fault.TheVariants.{Done, OptionFault, TextFault, ShelfFault, MessageFault, NoMemory}
 use Rattle.povfix.specs.Frames.{Frame, frames_of, reached_by, AreStored, IsExpanded, IsFinished, SameBesides}
 use Rattle.povfix.specs.Lines.{line_left, line_of, messages_left, name_under, text_number, Says}
+use Rattle.povfix.specs.Moments.{AllStay, IsStage}
 use Rattle.povfix.specs.Said.{Begins, IsFrameSaid, IsSaid, no_memory_line}
 use Rattle.povfix.specs.Scenes.{IsRead}
 use Rattle.povfix.specs.Verdict.{AreDrawn, FrameVerdict, IsFrameFault, done}
@@ -67,16 +69,16 @@ pub record IsCut (frame : Frame) (told : Option (List Text)) (texts_before texts
 pub record IsDone (frame : Frame) (told : Option (List Text)) (before now : Option (List ℕ)) (total : ℕ) : Type 0 where
   pub said : (texts : List Text) → told ≡ Some texts → (messages : List ℕ) × FrameVerdict frame texts (done messages total) × (now ≡ with_bytes before messages)
 
--- how a frame ends with a fault that is reported: with nothing new in the storage, nor in what a crash may leave of it,
--- unless it is the storage that failed
-pub record IsEnd (frame : Frame) (told : Option (List Text)) (texts_before texts_now shelf_before shelf_now sink_before sink_now : ℕ) (old new images images' : Contents) (before now : Option (List ℕ)) (fault : Fault) : Type 0 where
+-- how a frame ends with a fault that is reported: with nothing new in the storage, nor in what a crash may leave
+-- of it at any moment, unless it is the storage that failed
+pub record IsEnd (frame : Frame) (told : Option (List Text)) (texts_before texts_now shelf_before shelf_now sink_before sink_now : ℕ) (old new : Contents) (moment moment' : ℕ) (images images' : Images) (before now : Option (List ℕ)) (fault : Fault) : Type 0 where
   pub ending : IsEnding fault
   pub said : (texts : List Text) → told ≡ Some texts → IsFrameSaid frame texts fault before now sink_before sink_now
   pub text_fault : fault ≡ TextFault → Rose texts_before texts_now
   pub shelf_fault : fault ≡ ShelfFault → Rose shelf_before shelf_now
   pub message_fault : fault ≡ MessageFault → Rose sink_before sink_now
   pub kept : fault ≢ ShelfFault → SameContents old new
-  pub crash_kept : fault ≢ ShelfFault → SameContents images images'
+  pub crash_kept : fault ≢ ShelfFault → AllStay moment moment' images images'
 
 -- the fault that ends the frames of a plan, or that all are drawn
 abbrev pub fault_of : Result ℕ Fault → Fault
@@ -89,18 +91,18 @@ IsCourseSaid plan texts finished (Ok total) before now faults_before faults_now 
 IsCourseSaid plan texts finished (Err fault) before now faults_before faults_now = IsSaid (Ok plan) texts finished fault before now faults_before faults_now
 
 -- how far the frames of a plan come, and what they leave in the storage and tell the sink
-pub record IsCourse (plan : Plan) (told : Option (List Text)) (texts_before texts_now shelf_before shelf_now sink_before sink_now : ℕ) (old new images images' : Contents) (before now : Option (List ℕ)) (finished : ℕ) (end : Result ℕ Fault) : Type 0 where
+pub record IsCourse (plan : Plan) (told : Option (List Text)) (texts_before texts_now shelf_before shelf_now sink_before sink_now : ℕ) (old new : Contents) (moment moment' : ℕ) (images images' : Images) (before now : Option (List ℕ)) (finished : ℕ) (end : Result ℕ Fault) : Type 0 where
   pub frames : IsFrameFault (fault_of end)
   pub count : IsFinished (frames_of plan) (fault_of end) finished
   pub stored : (texts : List Text) → told ≡ Some texts → AreStored (take finished (frames_of plan)) texts new
-  pub durable : (texts : List Text) → told ≡ Some texts → AreStored (take finished (frames_of plan)) texts images'
+  pub durable : (texts : List Text) → told ≡ Some texts → AreStored (take finished (frames_of plan)) texts (images' moment')
   pub said : (texts : List Text) → told ≡ Some texts → IsCourseSaid plan texts finished end before now sink_before sink_now
   pub text_fault : fault_of end ≡ TextFault → Rose texts_before texts_now
   pub shelf_fault : fault_of end ≡ ShelfFault → Rose shelf_before shelf_now
   pub message_fault : fault_of end ≡ MessageFault → Rose sink_before sink_now
   pub sink_later : sink_before ≤ sink_now
   pub others : SameBesides (take (reached_by (fault_of end) finished) (frames_of plan)) old new
-  pub crash_others : SameBesides (take (reached_by (fault_of end) finished) (frames_of plan)) images images'
+  pub moments : ByStages moment moment' images images' (IsStage (take (reached_by (fault_of end) finished) (frames_of plan)) told (images moment))
   pub tells : Tells old new
 
 -- ---- once all frames are drawn

@@ -8,10 +8,12 @@ ghost use Rattle.directive_machine.specs.declared.texts.Text.{Text};
 ghost use Rattle.options.specs.Frames.{picture_name, IsFrame};
 ghost use Rattle.options.specs.Plans.{plan_of, IsPlan};
 ghost use Rattle.povfix.specs.Conversions.{status_of};
-ghost use Rattle.povfix.specs.Frames.{frame_of, frames_in, reached_by, AreStored, IsFinished, IsStored, SameBesides};
+ghost use Rattle.povfix.specs.Frames.{frame_of, frames_in, AreStored, IsStored};
+ghost use Rattle.povfix.specs.Moments.{AllStay, OthersStay};
+ghost use Rattle.povfix.specs.Runs.{IsPlanned};
 ghost use Rattle.povfix.specs.Said.{IsSaid};
 ghost use Rattle.povfix.specs.Steps.{fault_of, IsCourse, IsCut, IsDone, IsEnd};
-ghost use Rattle.povfix.specs.Verdict.{IsCaused, IsOptionAnswer, IsVerdict, Verdict};
+ghost use Rattle.povfix.specs.Verdict.{IsCaused, IsVerdict, Verdict};
 
 use crate::conversions::status;
 use crate::drawing::{draw, total};
@@ -65,9 +67,9 @@ fn rendered<T: Texts, S: Shelf, K: Sink>(
     ensures cut { IfErr result (IsCut (frame_of plan.now number) (T.held texts.old) (T.faults texts.old) (T.faults texts.new)
         (S.faults shelf.old) (S.faults shelf.new) (K.faults messages.old) (K.faults messages.new) (K.written messages.old) (K.written messages.new)) }
     ensures kept { IfErr result (λ ending. ending.fault ≢ Fault.ShelfFault → SameContents (S.holds shelf.old) (S.holds shelf.new)) }
-    ensures crash_kept { IfErr result (λ ending. ending.fault ≢ Fault.ShelfFault → SameContents (S.images shelf.old (S.moment shelf.old)) (S.images shelf.new (S.moment shelf.new))) }
+    ensures crash_kept { IfErr result (λ ending. ending.fault ≢ Fault.ShelfFault → AllStay (S.moment shelf.old) (S.moment shelf.new) (S.images shelf.old) (S.images shelf.new)) }
     ensures others { SameOthers (picture_name plan.now number) (S.holds shelf.old) (S.holds shelf.new) }
-    ensures crash_others { SameOthers (picture_name plan.now number) (S.images shelf.old (S.moment shelf.old)) (S.images shelf.new (S.moment shelf.new)) }
+    ensures crash_others { OthersStay (picture_name plan.now number) (S.moment shelf.old) (S.moment shelf.new) (S.images shelf.old) (S.images shelf.new) }
     ensures tells { Tells (S.holds shelf.old) (S.holds shelf.new) }
     ensures texts { T.held texts.new ≡ T.held texts.old }
     ensures texts_later { T.faults texts.old ≤ T.faults texts.new }
@@ -102,9 +104,9 @@ fn frame<T: Texts, S: Shelf, K: Sink>(
     ensures small { IfOk result (λ total. total ≤ 2 ^ 35) }
     ensures end { IfErr result (IsEnd (frame_of plan.now number) (T.held texts.old) (T.faults texts.old) (T.faults texts.new)
         (S.faults shelf.old) (S.faults shelf.new) (K.faults messages.old) (K.faults messages.new) (S.holds shelf.old) (S.holds shelf.new)
-        (S.images shelf.old (S.moment shelf.old)) (S.images shelf.new (S.moment shelf.new)) (K.written messages.old) (K.written messages.new)) }
+        (S.moment shelf.old) (S.moment shelf.new) (S.images shelf.old) (S.images shelf.new) (K.written messages.old) (K.written messages.new)) }
     ensures others { SameOthers (picture_name plan.now number) (S.holds shelf.old) (S.holds shelf.new) }
-    ensures crash_others { SameOthers (picture_name plan.now number) (S.images shelf.old (S.moment shelf.old)) (S.images shelf.new (S.moment shelf.new)) }
+    ensures crash_others { OthersStay (picture_name plan.now number) (S.moment shelf.old) (S.moment shelf.new) (S.images shelf.old) (S.images shelf.new) }
     ensures tells { Tells (S.holds shelf.old) (S.holds shelf.new) }
     ensures texts { T.held texts.new ≡ T.held texts.old }
     ensures texts_later { T.faults texts.old ≤ T.faults texts.new }
@@ -139,7 +141,7 @@ fn frames<T: Texts, S: Shelf, K: Sink>(
     requires plan { IsPlan plan.now }
     ensures course { IsCourse plan.now (T.held texts.old) (T.faults texts.old) (T.faults texts.new)
         (S.faults shelf.old) (S.faults shelf.new) (K.faults messages.old) (K.faults messages.new) (S.holds shelf.old) (S.holds shelf.new)
-        (S.images shelf.old (S.moment shelf.old)) (S.images shelf.new (S.moment shelf.new)) (K.written messages.old) (K.written messages.new) result.finished result.end }
+        (S.moment shelf.old) (S.moment shelf.new) (S.images shelf.old) (S.images shelf.new) (K.written messages.old) (K.written messages.new) result.finished result.end }
     ensures texts { T.held texts.new ≡ T.held texts.old }
 {
     names_differ();
@@ -190,7 +192,8 @@ fn ended<S: Shelf>(alloc: Global, shelf: S, finished: u32, fault: Fault) -> Outc
 /// Renders the frames that the words ask for, one after another. The sink takes the messages of each scene as its
 /// directives are carried out, and behind them the line of a fault, or the summary of a generated scene. The words are those
 /// behind the program's own name. Over texts that tell what they hold the clauses pin the answer and the count of finished
-/// frames; over storage that tells what a read gives they pin what is left in it.
+/// frames; over others the run still goes by one plan or one refusal, and changes no files but those of its frames. Over
+/// storage that tells what a read gives and what a crash leaves they pin what is left in it, at every moment of the call.
 pub fn run<T: Texts, S: Shelf + Send, K: Sink>(
     rt: &(impl Threads + Sync),
     alloc: Global,
@@ -199,6 +202,8 @@ pub fn run<T: Texts, S: Shelf + Send, K: Sink>(
     mut shelf: S,
     messages: &mut K,
 ) -> Outcome<S>
+    ensures planned { IsPlanned (T.held texts.old) (map string_bytes words.now) (S.holds shelf) (S.holds result.shelf)
+        (S.moment shelf) (S.moment result.shelf) (S.images shelf) (S.images result.shelf) result.finished result.fault }
     ensures stored { (h : List Text) → T.held texts.old ≡ Some h
         → AreStored (take result.finished (frames_in (plan_of h (map string_bytes words.now)))) h (S.holds result.shelf) }
     ensures durable { (h : List Text) → T.held texts.old ≡ Some h
@@ -209,25 +214,15 @@ pub fn run<T: Texts, S: Shelf + Send, K: Sink>(
         → (count : ℕ) (verdict : Verdict) → IsVerdict (plan_of h (map string_bytes words.now)) h count verdict
         → ¬ Rose (T.faults texts.old) (T.faults texts.new) → ¬ Rose (S.faults shelf) (S.faults result.shelf)
         → ((result.fault ≡ verdict.fault) × (result.finished ≡ count)) ⊎ (result.fault ≡ Fault.NoMemory) ⊎ (result.fault ≡ Fault.MessageFault) }
-    ensures options { (h : List Text) → T.held texts.old ≡ Some h
-        → IsOptionAnswer (plan_of h (map string_bytes words.now)) result.fault }
     ensures text_fault { result.fault ≡ Fault.TextFault → Rose (T.faults texts.old) (T.faults texts.new) }
     ensures shelf_fault { result.fault ≡ Fault.ShelfFault → Rose (S.faults shelf) (S.faults result.shelf) }
     ensures message_fault { result.fault ≡ Fault.MessageFault → Rose (K.faults messages.old) (K.faults messages.new) }
-    ensures others { (h : List Text) → T.held texts.old ≡ Some h
-        → SameBesides (take (reached_by result.fault result.finished) (frames_in (plan_of h (map string_bytes words.now))))
-        (S.holds shelf) (S.holds result.shelf) }
-    ensures crash_others { (h : List Text) → T.held texts.old ≡ Some h
-        → SameBesides (take (reached_by result.fault result.finished) (frames_in (plan_of h (map string_bytes words.now))))
-        (S.images shelf (S.moment shelf)) (S.images result.shelf (S.moment result.shelf)) }
     ensures tells { Tells (S.holds shelf) (S.holds result.shelf) }
     ensures texts { T.held texts.new ≡ T.held texts.old }
     ensures said { (h : List Text) → T.held texts.old ≡ Some h
         → IsSaid (plan_of h (map string_bytes words.now)) h result.finished result.fault
         (K.written messages.old) (K.written messages.new) (K.faults messages.old) (K.faults messages.new) }
     ensures status { result.status ≡ status_of result.fault }
-    ensures finished { (h : List Text) → T.held texts.old ≡ Some h
-        → IsFinished (frames_in (plan_of h (map string_bytes words.now))) result.fault result.finished }
     ensures traced { result.traced.items ≡ [] }
 {
     one_verdict();

@@ -1,20 +1,23 @@
-use Rattle.std.proofs.Common.{◌∙◌, arith}
-use Rattle.povfix.proofs.Courses.{are_apart, ends_at, step, stops}
+use Rattle.std.proofs.Common.{◌∙◌, refl, arith}
+use Rattle.povfix.proofs.Courses.{are_apart, ends_at, start, step, stops}
 use Rattle.povfix.proofs.render.frames.Goals as goal
 
 pub returns-in-Err-clause-course : goal.returns-in-Err-clause-course
 returns-in-Err-clause-course g c =
-    stops _ _ _ _ _ _ _ _ _ _ _ _ _ _ _ _ _ _ _ _ _ _
+    stops _ _ _ _ _ _ _ _ _ _ _ _ _ _ _ _ _ _ _ _ _ _ _ _ _
     (are_apart c.args.plan.now c.requires.plan (λ frame other. c.names_differ.ensures.pictures c.args.plan.now frame other c.requires.plan))
     (omega (arith, c.loop-finished-test.true)) c.loop-finished.invariant.so_far
     c.frame.ensures.others c.frame.ensures.crash_others c.frame.ensures.tells
     c.in-Err.fault _ c.loop-finished.invariant.held c.frame.ensures.sink_later c.in-Err.ensures.end
 
+pub loop-finished-init : goal.loop-finished-init
+loop-finished-init g c = record { so_far = start _ _ _ _ _ _ _ _ _; held = refl; small = omega arith }
+
 pub loop-finished-preserved : goal.loop-finished-preserved
 loop-finished-preserved g c =
     record {
       so_far =
-          step _ _ _ _ _ _ _ _ _ _ _ _ _ _ _ _ _ _ _ _ _ _
+          step _ _ _ _ _ _ _ _ _ _ _ _ _ _ _ _ _ _ _ _ _ _ _ _ _
           (are_apart c.args.plan.now c.requires.plan (λ frame other. c.names_differ.ensures.pictures c.args.plan.now frame other c.requires.plan))
           (omega (arith, c.loop-finished-test.true)) c.loop-finished.invariant.so_far
           c.frame.ensures.others c.frame.ensures.crash_others c.frame.ensures.tells
@@ -28,5 +31,5 @@ loop-finished-preserved g c =
 
 pub returns-clause-course : goal.returns-clause-course
 returns-clause-course g c =
-    ends_at _ _ _ _ _ _ _ _ _ _ _ _ _ _ c.loop-finished.finished c.loop-finished.total c.loop-finished.invariant.so_far
+    ends_at _ _ _ _ _ _ _ _ _ _ _ _ _ _ _ _ c.loop-finished.finished c.loop-finished.total c.loop-finished.invariant.so_far
     (omega (arith, c.loop-finished-test.false, c.loop-finished.auto.finished-end))
